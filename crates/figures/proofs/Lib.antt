@@ -1,0 +1,3 @@
+pub mod Modular
+pub mod Same
+pub mod Bits

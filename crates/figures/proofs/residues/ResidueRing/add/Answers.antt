@@ -1,0 +1,6 @@
+use mathlib.Core.Path.{refl}
+use Rattle.figures.proofs.Same.{same-residue}
+use Rattle.figures.proofs.residues.ResidueRing.add.Needs as need
+
+pub returns : need.returns
+returns c = same-residue _ _ refl

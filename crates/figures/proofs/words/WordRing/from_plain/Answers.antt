@@ -1,0 +1,6 @@
+use Rattle.figures.proofs.Same.{same-word}
+use native.Mathlib.Omega.{arith}
+use Rattle.figures.proofs.words.WordRing.from_plain.Needs as need
+
+pub returns : need.returns
+returns c = same-word _ _ (omega arith)

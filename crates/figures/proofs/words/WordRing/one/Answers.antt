@@ -1,0 +1,6 @@
+use Rattle.figures.proofs.Same.{same-word}
+use mathlib.Core.Path.{refl}
+use Rattle.figures.proofs.words.WordRing.one.Needs as need
+
+pub returns : need.returns
+returns c = same-word _ _ refl
