@@ -1,3 +1,4 @@
 pub mod Modular
 pub mod Same
 pub mod Bits
+pub mod DualLaws

@@ -1,3 +1,5 @@
 pub mod Words
 pub mod Residues
 pub mod ScenarioBits
+pub mod Duals
+pub mod Packs

@@ -1,18 +1,26 @@
 // Kinds of figures: commutative rings whose laws are proved.
 ghost use mathlib.Core.Path.{_≡_};
+ghost use Prim.Native.Nat.{ℕ};
 ghost use Rattle.algebra.specs.Ring.{Ops, Laws};
+ghost use Rattle.figures.specs.Packs.{Admitted};
 
+mod duals;
 mod kinds;
 mod residues;
 mod scenario_bits;
 mod words;
 
+pub use duals::DualPackable;
+pub use duals::DualRing;
 pub use kinds::Dual;
 pub use kinds::Residue;
 pub use kinds::Scenarios;
 pub use kinds::Word;
+pub use residues::ResiduePackable;
 pub use residues::ResidueRing;
+pub use scenario_bits::ScenariosPackable;
 pub use scenario_bits::ScenariosRing;
+pub use words::WordPackable;
 pub use words::WordRing;
 
 // A kind of figures. Each operation is a fixed function and none refuses; there is no order and no division.
@@ -52,4 +60,31 @@ pub trait Ring: Copy {
 
     fn to_plain(self) -> Self::Plain
         ensures { λ r. ⌜ r ≡ plain self ⌝ };
+}
+
+// A kind whose figures go into reply records.
+pub trait Packable: Ring {
+    // The kind's number in a record, and how many bits its figures take there.
+    const KIND: u8;
+
+    const WIDTH: u32;
+
+    ghost kind: { ℕ };
+
+    ghost width: { ℕ };
+
+    // The number that a figure is packed as.
+    ghost bits: { Self → ℕ };
+
+    law admitted: { (x : Self) → Admitted kind width (bits x) };
+
+    // The two constants once more: under a bound a clause cannot speak of a constant, and can of a function's result.
+    fn reply_kind() -> u8
+        ensures { λ r. ⌜ r ≡ kind ⌝ };
+
+    fn reply_width() -> u32
+        ensures { λ r. ⌜ r ≡ width ⌝ };
+
+    fn reply_bits(self) -> u64
+        ensures { λ r. ⌜ r ≡ bits self ⌝ };
 }

@@ -1,5 +1,6 @@
 // Residues, the check figures: arithmetic modulo the prime 2^31 - 1.
 ghost use Rattle.figures.specs.Residues.{residue, ops as residueOps};
+use crate::Packable;
 use crate::Ring;
 use crate::kinds::Residue;
 
@@ -50,5 +51,29 @@ pub impl Ring for Residue as ResidueRing {
 
     fn to_plain(self) -> u32 {
         self.number
+    }
+}
+
+pub impl Packable for Residue as ResiduePackable {
+    const KIND: u8 = 2;
+
+    const WIDTH: u32 = 31;
+
+    ghost kind = { 2 };
+
+    ghost width = { 31 };
+
+    ghost bits = { λ x. x .number };
+
+    fn reply_kind() -> u8 {
+        Self::KIND
+    }
+
+    fn reply_width() -> u32 {
+        Self::WIDTH
+    }
+
+    fn reply_bits(self) -> u64 {
+        self.number as u64
     }
 }

@@ -1,5 +1,6 @@
 // Scenarios: 64 truth values side by side. Sum is exclusive-or, product is and.
 ghost use Rattle.figures.specs.ScenarioBits.{scenarios, ops as scenarioOps};
+use crate::Packable;
 use crate::Ring;
 use crate::kinds::Scenarios;
 
@@ -41,6 +42,30 @@ pub impl Ring for Scenarios as ScenariosRing {
     }
 
     fn to_plain(self) -> u64 {
+        self.bits
+    }
+}
+
+pub impl Packable for Scenarios as ScenariosPackable {
+    const KIND: u8 = 3;
+
+    const WIDTH: u32 = 64;
+
+    ghost kind = { 3 };
+
+    ghost width = { 64 };
+
+    ghost bits = { λ x. x .bits };
+
+    fn reply_kind() -> u8 {
+        Self::KIND
+    }
+
+    fn reply_width() -> u32 {
+        Self::WIDTH
+    }
+
+    fn reply_bits(self) -> u64 {
         self.bits
     }
 }

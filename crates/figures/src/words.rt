@@ -1,5 +1,6 @@
 // Words: sum, negative and product modulo 2^64.
 ghost use Rattle.figures.specs.Words.{word, ops as wordOps};
+use crate::Packable;
 use crate::Ring;
 use crate::kinds::Word;
 
@@ -43,6 +44,30 @@ pub impl Ring for Word as WordRing {
     }
 
     fn to_plain(self) -> u64 {
+        self.number
+    }
+}
+
+pub impl Packable for Word as WordPackable {
+    const KIND: u8 = 1;
+
+    const WIDTH: u32 = 64;
+
+    ghost kind = { 1 };
+
+    ghost width = { 64 };
+
+    ghost bits = { λ x. x .number };
+
+    fn reply_kind() -> u8 {
+        Self::KIND
+    }
+
+    fn reply_width() -> u32 {
+        Self::WIDTH
+    }
+
+    fn reply_bits(self) -> u64 {
         self.number
     }
 }
