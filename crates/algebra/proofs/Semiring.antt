@@ -1,6 +1,5 @@
 -- The laws of a commutative semiring, which every ring and the ordinary whole numbers keep. Assumes nothing.
 use mathlib.Core.Path.{_≡_, sym, ap, _∙_}
-use Prim.Native.Nat.{ℕ}
 use native.Mathlib.Nat.{add-comm, add-assoc, add-zero, mul-comm, mul-assoc, mul-one, mul-zero, mul-add}
 use Rattle.algebra.specs.Ring.{Ops, Laws, Semi, semi}
 use Rattle.algebra.specs.Patterns.{naturals}

@@ -95,10 +95,15 @@ takeOut m (n ∷ q) = cond (same m n) (found q) (put n (takeOut m q))
 -- An empty type that shows what is left of the two sides where they differ.
 pub data Differ : Polynomial → Polynomial → Type 0 where
 
+-- What is not found on the right is put aside, so that `Differ` shows no more than the difference.
+abbrev pub Compare : Polynomial → Polynomial → Polynomial → Type 0
+Compare [] [] [] = Unit {0}
+Compare [] [] (n ∷ q) = Differ [] (n ∷ q)
+Compare (m ∷ aside) [] q = Differ (m ∷ aside) q
+Compare aside (m ∷ p) q = elim (takeOut m q) [ found r ↦ Compare aside p r | missing ↦ Compare (m ∷ aside) p q ]
+
 abbrev pub Equal : Polynomial → Polynomial → Type 0
-Equal [] [] = Unit {0}
-Equal [] (n ∷ q) = Differ [] (n ∷ q)
-Equal (m ∷ p) q = elim (takeOut m q) [ found r ↦ Equal p r | missing ↦ Differ (m ∷ p) q ]
+Equal p q = Compare [] p q
 
 abbrev pub EqualSums : {F : Type 0} {s : Semi F} {xs : List F} {x y : F} → Sums s xs x y → Type 0
 EqualSums (sums r t) = Equal (polynomial r) (polynomial t)
@@ -174,14 +179,21 @@ module _ {F : Type 0} {s : Semi F} (L : SemiLaws s) where
         either false e (found r) h = ap (s .plus (valueOf s xs n)) h ∙ exchange (s .plus) (L .plus-comm) (L .plus-assoc) (valueOf s xs n) (valueOf s xs m) (sumOf s xs r)
         either false e missing h = tt
 
-    equal-value : (p q : Polynomial) → Equal p q → sumOf s xs p ≡ sumOf s xs q
-    equal-value [] [] h = refl
-    equal-value [] (n ∷ q) h = elim h [ ]
-    equal-value (m ∷ p) q h = go (takeOut m q) (takeOut-value m q) (λ r. equal-value p r) h
+    compare-value : (aside p q : Polynomial) → Compare aside p q → s .plus (sumOf s xs aside) (sumOf s xs p) ≡ sumOf s xs q
+    compare-value [] [] [] h = L .plus-zero (s .zero)
+    compare-value [] [] (n ∷ q) h = elim h [ ]
+    compare-value (m ∷ aside) [] q h = elim h [ ]
+    compare-value aside (m ∷ p) q h = go (takeOut m q) (takeOut-value m q) (compare-value aside p) (compare-value (m ∷ aside) p q) h
       where
-        go : (r : Rest) → Leaves s xs m q r → ((r : Polynomial) → Equal p r → sumOf s xs p ≡ sumOf s xs r) → elim r as (λ _. Type 0) [ found r ↦ Equal p r | missing ↦ Differ (m ∷ p) q ] → sumOf s xs (m ∷ p) ≡ sumOf s xs q
-        go (found r) e ih h = ap (s .plus (valueOf s xs m)) (ih r h) ∙ sym e
-        go missing e ih h = elim h [ ]
+        turned : s .plus (sumOf s xs aside) (sumOf s xs (m ∷ p)) ≡ s .plus (valueOf s xs m) (s .plus (sumOf s xs aside) (sumOf s xs p))
+        turned = exchange (s .plus) (L .plus-comm) (L .plus-assoc) (sumOf s xs aside) (valueOf s xs m) (sumOf s xs p)
+
+        go : (r : Rest) → Leaves s xs m q r → ((r : Polynomial) → Compare aside p r → s .plus (sumOf s xs aside) (sumOf s xs p) ≡ sumOf s xs r) → (Compare (m ∷ aside) p q → s .plus (sumOf s xs (m ∷ aside)) (sumOf s xs p) ≡ sumOf s xs q) → elim r as (λ _. Type 0) [ found r ↦ Compare aside p r | missing ↦ Compare (m ∷ aside) p q ] → s .plus (sumOf s xs aside) (sumOf s xs (m ∷ p)) ≡ sumOf s xs q
+        go (found r) e there-is none h = turned ∙ ap (s .plus (valueOf s xs m)) (there-is r h) ∙ sym e
+        go missing e there-is none h = turned ∙ sym (L .plus-assoc (valueOf s xs m) (sumOf s xs aside) (sumOf s xs p)) ∙ none h
+
+    equal-value : (p q : Polynomial) → Equal p q → sumOf s xs p ≡ sumOf s xs q
+    equal-value p q h = sym (L .plus-comm (s .zero) (sumOf s xs p) ∙ L .plus-zero (sumOf s xs p)) ∙ compare-value [] p q h
 
   place-value : {xs : List F} {x : F} (m : Member xs x) → at xs (place m) ≡ x
   place-value here = refl
