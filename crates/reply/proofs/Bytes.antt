@@ -20,7 +20,7 @@ octets bytes small = all-from-getD (λ d. d < 256) bytes 0 (λ i _. omega (arith
 
 -- fewer than 16 bytes and one more fit 128 bits
 pub room : (bytes : List ℕ) (i b : ℕ) → i < length bytes → length bytes ≤ 16 → Under 256 (take i bytes) → b < 256
-  → number 256 (take i bytes) * 256 + b < 2 ^ 128
+    → number 256 (take i bytes) * 256 + b < 2 ^ 128
 room bytes i b h most under small =
     let long : length (take i bytes) ≤ 15 = simp length-take (omega arith) in
     let below = number-lt 256 (take i bytes) under in

@@ -21,9 +21,10 @@ add-n c =
 
 pub loop-b-again : need.loop-b-again
 loop-b-again c =
-    let read = number-more 256 (c .args .bytes .now) (c .loop-b .b-index) (c .loop-b-test .taken) in
-    (ap (λ n. n * 256 + getD (c .args .bytes .now) (c .loop-b .b-index) 0) (c .loop-b .inv .0) ∙ sym read,
-     all-more (λ d. d < 256) (c .args .bytes .now) (c .loop-b .b-index) 0 (c .loop-b-test .taken) (c .loop-b .inv .1) (omega arith))
+    let read = number-more 256 (c .args .bytes .now) (c .loop-b .b-index) (c .loop-b-test .taken) in (
+      ap (λ n. n * 256 + getD (c .args .bytes .now) (c .loop-b .b-index) 0) (c .loop-b .inv .0) ∙ sym read,
+      all-more (λ d. d < 256) (c .args .bytes .now) (c .loop-b .b-index) 0 (c .loop-b-test .taken) (c .loop-b .inv .1) (omega arith),
+    )
 
 pub returns : need.returns
 returns c = c .loop-b .inv .0 ∙ ap (number 256) (take-all (c .loop-b .b-index) (c .args .bytes .now) (c .loop-b-test .left))
