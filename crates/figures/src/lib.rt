@@ -88,3 +88,6 @@ pub trait Packable: Ring {
     fn reply_bits(self) -> u64
         ensures { λ r. ⌜ r ≡ bits self ⌝ };
 }
+
+#[cfg(test)]
+mod tests;

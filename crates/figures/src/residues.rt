@@ -74,6 +74,6 @@ pub impl Packable for Residue as ResiduePackable {
     }
 
     fn reply_bits(self) -> u64 {
-        self.number as u64
+        self.to_plain() as u64
     }
 }

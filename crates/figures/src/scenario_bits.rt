@@ -66,6 +66,6 @@ pub impl Packable for Scenarios as ScenariosPackable {
     }
 
     fn reply_bits(self) -> u64 {
-        self.bits
+        self.to_plain()
     }
 }

@@ -68,6 +68,6 @@ pub impl Packable for Word as WordPackable {
     }
 
     fn reply_bits(self) -> u64 {
-        self.number
+        self.to_plain()
     }
 }

@@ -252,19 +252,12 @@ fn placed(f: Fields) -> u128
         + f.figure as u128
 }
 
-// The round trip needs to know that bytes are below 256.
-fn write<F: Packable>(reply: Record<F>) -> [u8; 16]
+// Writes a record, most significant bit first. (That entries are bytes, their type says, and a list of numbers does not.)
+pub fn pack<F: Packable>(reply: Record<F>) -> [u8; 16]
     ensures holds { λ r. ⌜ Holds r (fieldsOf (F·Packable .kind) (F·Packable .bits) reply) ⌝ }
     ensures octets { λ r. ⌜ Under 256 r ⌝ }
 {
     placed(reply.fields()).to_be_bytes()
-}
-
-// Writes a record, most significant bit first.
-pub fn pack<F: Packable>(reply: Record<F>) -> [u8; 16]
-    ensures { λ r. ⌜ Holds r (fieldsOf (F·Packable .kind) (F·Packable .bits) reply) ⌝ }
-{
-    write(reply)
 }
 
 // What was packed is read back: every record, over every kind that packs.
@@ -314,9 +307,9 @@ fn repacked(f: Fields) -> [u8; 16]
     ensures { λ r. ⌜ Holds r f ⌝ ∗ ⌜ Under 256 r ⌝ }
 {
     match f.kind {
-        1 => write(typed(f, Word::from_plain(f.figure))),
-        2 => write(typed(f, Residue::from_plain(f.figure as u32))),
-        _ => write(typed(f, Scenarios::from_plain(f.figure))),
+        1 => pack(typed(f, Word::from_plain(f.figure))),
+        2 => pack(typed(f, Residue::from_plain(f.figure as u32))),
+        _ => pack(typed(f, Scenarios::from_plain(f.figure))),
     }
 }
 
@@ -327,3 +320,6 @@ pub fn unpack_then_pack(bytes: &[u8]) -> Result<[u8; 16], Refusal>
     let f = unpack(bytes)?;
     Ok(repacked(f))
 }
+
+#[cfg(test)]
+mod tests;

@@ -7,7 +7,7 @@ use Rattle.std.specs.shelf.Digits.{number, Under}
 use Rattle.reply.specs.Rules.{fieldsOf}
 use Rattle.reply.proofs.Bytes.{bytesOf, bytes-under, number-bytes}
 use Rattle.reply.proofs.Records.{Narrow, replied-narrow, holds-placed, whole}
-use Rattle.reply.proofs.write.Needs as need
+use Rattle.reply.proofs.pack.Needs as need
 
 pub placed-requires : need.placed-requires
 placed-requires g c κs =
