@@ -25,6 +25,10 @@ fn input(rt: &LibcRuntime) -> Result<Vec<u8>, AnyError> {
         rt.stdin().read_to_end(&mut bytes)?;
         return Ok(bytes);
     };
+    if args.next().is_some() {
+        eprintln!(rt, "survivorship: one file at most")?;
+        return Err("more than one file".into());
+    }
     match fs::read(rt, path.as_str()) {
         Ok(bytes) => Ok(bytes),
         Err(e) => {
