@@ -32,7 +32,8 @@ module _ {F : Type 0} (s : Semi F) where
   total [] = s .zero
   total (x ∷ xs) = s .plus x (total xs)
 
-  -- The product over all lives of the worth that the pattern picks; one for no lives.
+  -- The product over all lives of the worth that the pattern picks; one for no lives. (A pattern has a mark for each
+  -- life, so its end is never met before theirs.)
   abbrev pub weight : List (Life F) → List Bool → F
   weight [] p = s .one
   weight (l ∷ ls) [] = s .one

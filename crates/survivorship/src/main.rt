@@ -1,20 +1,21 @@
 // Reads commands, one to a line, and prints what comes of each.
+mod answers;
 mod commands;
+mod numbers;
+mod printer;
+mod sessions;
 mod text;
+mod typed;
 mod words;
 
 use commands::obey;
-use commands::printed;
-use std::alloc::Global;
+use printer::Printer;
+use sessions::open;
 use std::env;
 use std::error::AnyError;
 use std::fs;
-use std::io::BufWriter;
 use std::io::Read;
-use std::io::Write;
-use words::is_passed_over;
-use words::line_end;
-use words::words;
+use words::Lines;
 
 // The file that the command line names, or standard input.
 fn input(rt: &LibcRuntime) -> Result<Vec<u8>, AnyError> {
@@ -38,29 +39,25 @@ fn input(rt: &LibcRuntime) -> Result<Vec<u8>, AnyError> {
     }
 }
 
-// Whether every command was understood.
-fn run(rt: &LibcRuntime, heap: Global, input: &[u8]) -> Result<bool, AnyError> {
-    let mut out = BufWriter::new(rt.stdout());
-    let mut understood = true;
-    let mut at = 0;
-    while at < input.len() {
-        let end = line_end(input, at);
-        let words = words(heap, &input[at..end])?;
-        if !is_passed_over(&words) {
-            let answer = obey(heap, &words)?;
-            understood = understood && answer.is_some();
-            let line = printed(heap, &words, answer)?;
-            out.write_all(&line)?;
+// Obeys every line.
+fn run(lines: &mut Lines, printer: &mut Printer) -> Result<(), AnyError> {
+    while let Some(words) = lines.next_command()? {
+        if let [b"open", ..] = words.as_slice() {
+            open(lines, printer, &words)?;
+        } else {
+            let answer = obey(printer.heap, &words);
+            printer.print(&words, answer)?;
         }
-        at = end + 1;
     }
-    out.flush()?;
-    Ok(understood)
+    Ok(())
 }
 
 fn main(rt: LibcRuntime) -> Result<(), AnyError> {
     let input = input(&rt)?;
-    if run(&rt, rt.alloc(), &input)? {
+    let mut lines = Lines::new(rt.alloc(), &input);
+    let mut printer = Printer::new(rt.alloc(), rt.stdout());
+    run(&mut lines, &mut printer)?;
+    if printer.finish()? {
         return Ok(());
     }
     Err("a line was not understood".into())

@@ -1,6 +1,5 @@
-use Prim.Native.Nat.{_-_}
-use lib.ListN.{length}
+use Rattle.survivorship.specs.Reading.{left}
 use Rattle.survivorship.proofs.run.Given as given
 
-abbrev pub μ-loop-at : given.MeasureT-loop-at
-μ-loop-at l = length (l .input) - l .at
+abbrev pub μ-loop-words : given.MeasureT-loop-words
+μ-loop-words l = left (l .lines)

@@ -1,0 +1,4 @@
+pub mod Sums
+pub mod Differences
+pub mod Columns
+pub mod Rows

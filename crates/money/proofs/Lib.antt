@@ -1,0 +1,4 @@
+pub mod Passes
+pub mod Sums
+pub mod Rounding
+pub mod Rows

@@ -1,0 +1,14 @@
+pub mod Calls
+pub mod Gaps
+pub mod Holding
+pub mod Laying
+pub mod Places
+pub mod QuestionsMultiple
+pub mod QuestionsRead
+pub mod QuestionsSums
+pub mod QuestionsWays
+pub mod RowsComposed
+pub mod RowsTable
+pub mod RowsTriangle
+pub mod Sums
+pub mod Runs
