@@ -1,1 +1,2 @@
-// The mathematics that the other crates rest on: see specs/ and proofs/. No code.
+//! The mathematics that the other crates rest on: see specs/ and proofs/. No code.
+#![tactic(auto)]

@@ -1,4 +1,6 @@
 //! Worked examples: what the definitions give on small numbers.
+#![tactic(auto)]
+
 ghost use Rattle.std.specs.Prelude.{◌≡◌};
 ghost use Rattle.examples.specs.Worked.{computed, listed};
 

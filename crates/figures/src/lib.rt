@@ -1,4 +1,6 @@
 //! Kinds of figures: commutative rings whose laws are proved.
+#![tactic(auto)]
+
 ghost use Rattle.std.specs.Prelude.{◌≡◌, ℕ};
 ghost use Rattle.algebra.specs.Ring.{Ops, Laws};
 ghost use Rattle.figures.specs.Packs.{Admitted};

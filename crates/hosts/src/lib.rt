@@ -1,4 +1,6 @@
 //! The money calls and the exchangeable row for C: a slice is a pointer and then a length.
+#![tactic(auto)]
+
 ghost use Rattle.std.specs.Prelude.{◌≡◌, length, replicate, Err};
 ghost use Rattle.exchangeable.specs.Answer.{Answered, Refused as RowRefused};
 ghost use Rattle.hosts.specs.Outcomes.{Made, of_factor, of_money_row, of_table_row};

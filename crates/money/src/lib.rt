@@ -1,4 +1,6 @@
 //! The money row, and the factor taken from it.
+#![tactic(auto)]
+
 ghost use Rattle.std.specs.Prelude.{◌≡◌, ℕ, ◌+◌, ◌≤◌, length, take, drop, replicate, MatchResult, slice_index};
 ghost use Rattle.algebra.specs.Patterns.{naturals, total};
 ghost use Rattle.money.specs.Answer.{Admitted, FactorAnswered, Refused, RowAnswered, number};

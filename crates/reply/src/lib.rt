@@ -1,4 +1,6 @@
 //! Reply records: 16 bytes that answer a question about a roster.
+#![tactic(auto)]
+
 ghost use Rattle.std.specs.Prelude.{◌≡◌, ℕ, ◌+◌, ◌*◌, ◌^◌, ◌<◌, ◌≤◌, true, length, Ok, MatchOption};
 ghost use Rattle.std.specs.Int.Digits.{number_from_digits, AllBelowBase};
 ghost use Rattle.reply.specs.Layout.{part, Holds};

@@ -1,4 +1,6 @@
 //! Rosters of lives: who is present, and how likely it is that exactly k, or at least k, of them survive.
+#![tactic(auto)]
+
 mod cells;
 mod coefficients;
 mod counting;

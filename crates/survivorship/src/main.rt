@@ -1,4 +1,6 @@
 //! Reads commands, one to a line, and prints what comes of each.
+#![tactic(auto)]
+
 mod answers;
 mod commands;
 mod numbers;

@@ -3,8 +3,8 @@ use lib.Bits.{xor_lt}
 use Rattle.figures.specs.Same.{same_scenarios}
 use Rattle.figures.proofs.scenario_bits.ScenariosRing.add.Goals as goal
 
-pub invariant-of-result : goal.invariant-of-result
-invariant-of-result c = (xor_lt 64 _ _ c.args.self.fits c.args.other.fits, tt)
+pub invariant_of-result : goal.invariant_of-result
+invariant_of-result c = (xor_lt 64 _ _ c.args.self.fits c.args.other.fits, tt)
 
 pub returns : goal.returns
 returns c = same_scenarios _ _ (search rules)
