@@ -6,14 +6,14 @@ use Rattle.exchangeable.proofs.Differences.{events_from}
 use Rattle.exchangeable.proofs.Rows.{none_below, some_below, value_nonneg, value_small, row_from}
 use Rattle.exchangeable.proofs.exchangeable_row.Goals as goal
 
-pub returns-in-err-admit : goal.returns-in-err-admit
-returns-in-err-admit c =
-    let p = err_from_is_err_and c.from-residual.result c.from-residual.ensures.1 in
-    rw (p.1, p.2) (c.in-err-admit.ensures c.args.m c.args.out.now, refl)
+pub returns-in_err-admit : goal.returns-in_err-admit
+returns-in_err-admit c =
+    let p = err_from_is_err_and c.from_residual.result c.from_residual.ensures.1 in
+    rw (p.1, p.2) (c.in_err-admit.ensures c.args.m c.args.out.now, refl)
 
 pub returns-in-Some : goal.returns-in-Some
 returns-in-Some c =
-    let a = c.in-ok-admit.ensures in (
+    let a = c.in_ok-admit.ensures in (
       some_below c.args.table.now c.column-weights.result (omega arith) c.column-weights.ensures
           c.args.m c.args.out.now c.in-Some.place a (omega arith) (omega arith) c.in-Some.ensures,
       refl,
@@ -21,10 +21,10 @@ returns-in-Some c =
 
 pub multiply-requires : goal.multiply-requires
 multiply-requires c =
-    let a = c.in-ok-admit.ensures in
+    let a = c.in_ok-admit.ensures in
     let last : (k : ℕ) → k ≤ top c.args.table.now → pos 0 ≤ℤ value c.args.table.now k (top c.args.table.now) =
     none_below c.args.table.now c.column-weights.result (omega arith) c.column-weights.ensures
-    c.in-default.ensures (omega arith) in
+    c.in_default.ensures (omega arith) in
     record {
       lengths = omega arith;
       sizes = λ k h.
@@ -39,10 +39,10 @@ multiply-requires c =
 
 pub returns : goal.returns
 returns c =
-    let a = c.in-ok-admit.ensures in
+    let a = c.in_ok-admit.ensures in
     let last : (k : ℕ) → k ≤ top c.args.table.now → pos 0 ≤ℤ value c.args.table.now k (top c.args.table.now) =
     none_below c.args.table.now c.column-weights.result (omega arith) c.column-weights.ensures
-    c.in-default.ensures (omega arith) in (
+    c.in_default.ensures (omega arith) in (
       a,
       omega arith,
       omega arith,

@@ -5,8 +5,8 @@ use Rattle.exchangeable.proofs.Columns.{set_column, taken_fits, taken_back, all_
 use Rattle.exchangeable.proofs.Differences.{value_last}
 use Rattle.exchangeable.proofs.extend.Goals as goal
 
-pub overflow-sub-values : goal.overflow-sub-values
-overflow-sub-values c =
+pub overflow_sub-values : goal.overflow_sub-values
+overflow_sub-values c =
     taken_fits c.args.table.now c.requires.within.0 c.args.m c.loop-k.k (omega arith) (omega arith) (omega arith) _ _
     (c.loop-k.invariant.1 (c.loop-k.k - 1) (omega arith))
     (c.loop-k.invariant.0 (c.loop-k.k - 1 + 1) (omega arith) (omega arith))

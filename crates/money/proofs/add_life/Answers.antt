@@ -2,24 +2,24 @@ use Rattle.std.proofs.Common.{refl, arith}
 use Rattle.money.proofs.Passes.{turn_fits, rest_more, done_more, done_all}
 use Rattle.money.proofs.add_life.Goals as goal
 
-pub overflow-mul-t-in-loop-cell : goal.overflow-mul-t-in-loop-cell
-overflow-mul-t-in-loop-cell c =
+pub overflow_mul-t-in-loop-cell : goal.overflow_mul-t-in-loop-cell
+overflow_mul-t-in-loop-cell c =
     omega (
       arith,
       turn_fits c.args.p c.loop-cell.below c.loop-cell.row c.args.row.now c.loop-cell.cell-index
           c.requires.0 c.loop-cell.invariant.0 (omega arith) c.loop-cell.invariant.2 c.requires.1,
     )
 
-pub overflow-add-t : goal.overflow-add-t
-overflow-add-t c =
+pub overflow_add-t : goal.overflow_add-t
+overflow_add-t c =
     omega (
       arith,
       turn_fits c.args.p c.loop-cell.below c.loop-cell.row c.args.row.now c.loop-cell.cell-index
           c.requires.0 c.loop-cell.invariant.0 (omega arith) c.loop-cell.invariant.2 c.requires.1,
     )
 
-pub overflow-add-t-in-loop-cell : goal.overflow-add-t-in-loop-cell
-overflow-add-t-in-loop-cell c =
+pub overflow_add-t-in-loop-cell : goal.overflow_add-t-in-loop-cell
+overflow_add-t-in-loop-cell c =
     omega (
       arith,
       turn_fits c.args.p c.loop-cell.below c.loop-cell.row c.args.row.now c.loop-cell.cell-index

@@ -4,17 +4,17 @@ use Rattle.money.specs.Money.{whole}
 use Rattle.money.proofs.Rows.{starts, part_small, row_more, row_all}
 use Rattle.money.proofs.money_row.Goals as goal
 
-pub returns-in-err-admit : goal.returns-in-err-admit
-returns-in-err-admit c =
-    let p = err_from_is_err_and c.from-residual.result c.from-residual.ensures.1 in
-    rw (p.1, p.2) (c.in-err-admit.ensures 0 _, refl)
+pub returns-in_err-admit : goal.returns-in_err-admit
+returns-in_err-admit c =
+    let p = err_from_is_err_and c.from_residual.result c.from_residual.ensures.1 in
+    rw (p.1, p.2) (c.in_err-admit.ensures 0 _, refl)
 
 pub loop-i-init : goal.loop-i-init
 loop-i-init c = starts c.args.row.now whole (omega arith)
 
-pub add-life-requires : goal.add-life-requires
-add-life-requires c =
-    let a = c.in-ok-admit.ensures in (
+pub add_life-requires : goal.add_life-requires
+add_life-requires c =
+    let a = c.in_ok-admit.ensures in (
       a.1 c.loop-i.i c.loop-i-test.true,
       part_small c.args.lives.now (set c.args.row.now 0 whole) c.loop-i.row c.loop-i.i a c.loop-i-test.true
           (omega (arith, length-set c.args.row.now 0 whole)) c.loop-i.invariant,
@@ -22,11 +22,11 @@ add-life-requires c =
 
 pub loop-i-preserved : goal.loop-i-preserved
 loop-i-preserved c =
-    row_more c.args.lives.now (set c.args.row.now 0 whole) c.loop-i.row c.loop-i.i c.in-ok-admit.ensures
+    row_more c.args.lives.now (set c.args.row.now 0 whole) c.loop-i.row c.loop-i.i c.in_ok-admit.ensures
     c.loop-i-test.true (omega (arith, length-set c.args.row.now 0 whole)) c.loop-i.invariant
-    c.add-life.new.row c.add-life.ensures
+    c.add_life.new.row c.add_life.ensures
 
 pub returns : goal.returns
 returns c =
-    row_all c.args.lives.now c.args.row.now c.loop-i.row c.loop-i.i c.in-ok-admit.ensures (omega arith)
+    row_all c.args.lives.now c.args.row.now c.loop-i.row c.loop-i.i c.in_ok-admit.ensures (omega arith)
     (omega arith) c.loop-i.invariant

@@ -3,8 +3,8 @@ use Rattle.money.specs.Money.{whole}
 use Rattle.money.proofs.Sums.{running_fits, running_more, running_all}
 use Rattle.money.proofs.sum_from.Goals as goal
 
-pub overflow-add-sum : goal.overflow-add-sum
-overflow-add-sum c =
+pub overflow_add-sum : goal.overflow_add-sum
+overflow_add-sum c =
     omega (
       arith,
       running_fits c.args.row.now c.args.k c.loop-r.r c.args.count c.loop-r.sum c.loop-r.invariant whole

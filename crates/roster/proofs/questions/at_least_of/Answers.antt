@@ -6,5 +6,5 @@ pub returns : goal.returns
 returns g c size l held =
     let o = g.F.Ring.ops in
     let plain = g.F.Ring.plain in
-    let looked = c.in-ok-k.ensures in
-    (at_least_asked plain g.met.F.Ring.laws l c.in-ok-k.k c.args.k c.tail.result looked.0 looked.1 (c.tail.ensures size l held), asked held (is_refused o plain (answer o plain l (AtLeast c.args.k))))
+    let looked = c.in_ok-k.ensures in
+    (at_least_asked plain g.met.F.Ring.laws l c.in_ok-k.k c.args.k c.tail.result looked.0 looked.1 (c.tail.ensures size l held), asked held (is_refused o plain (answer o plain l (AtLeast c.args.k))))

@@ -11,8 +11,8 @@ returns-then-k-n g c size l held =
     let beyond : length (figures l.lives) < c.args.k = rw length-map (omega (arith, c.count-n.ensures.lives size l held)) in
     c.zero.ensures ∙ sym (entry_past g.met.F.Ring.laws l.whole (figures l.lives) c.args.j c.args.k beyond)
 
-pub returns-then-is-empty : goal.returns-then-is-empty
-returns-then-is-empty g c size l held =
+pub returns-then-is_empty : goal.returns-then-is_empty
+returns-then-is_empty g c size l held =
     let empty : length c.args.cells.now ≡ 0 = search rules in
     let none : length l.lives ≡ 0 = omega (arith, length_held held) in
     let nobody : length (figures l.lives) ≡ 0 = rw length-map none in

@@ -18,7 +18,7 @@ loop-request-preserved g c =
     let outcome = c.perform.result in
     let left = into_iter_items c.next.new.self in
     let step : into_iter_items c.loop-request.request-iterator ≡ request ∷ left = c.in-Some.ensures.steps.0 in
-    let items = c.push-reserved.ensures.items in (
+    let items = c.push_reserved.ensures.items in (
       tt,
       tt,
       append_assoc done (request ∷ []) left ∙ ap (λ xs. done ++ xs) (sym step) ∙ i.2,
@@ -30,7 +30,7 @@ loop-request-preserved g c =
             subst (λ xs. Holds o plain size (final o plain start xs) c.perform.new.roster.cells.now) (sym calls) ran.1,
           )),
       omega (arith, i.4, ap length items, length-append (vec_items c.loop-request.outcomes) (outcome ∷ []), length-append done (request ∷ [])),
-      omega (arith, i.5, ap length step, length-append done (request ∷ []), c.push-reserved.ensures.capacity),
+      omega (arith, i.5, ap length step, length-append done (request ∷ []), c.push_reserved.ensures.capacity),
       c.perform.ensures.lent ∙ i.6,
     )
 
@@ -45,7 +45,7 @@ returns g c =
     let ended : length left ≡ 0 = omega (arith, c.in-None.ensures.steps.0, c.loop-request.request-iterator.rest.ok.0) in
     let all : c.loop-request.yielded ≡ vec_items c.args.requests =
     sym (append-nil c.loop-request.yielded) ∙ ap (λ xs. c.loop-request.yielded ++ xs) (sym (nil_from_length left ended))
-    ∙ c.loop-request.invariant.2 ∙ c.into-iter-request-iterator.ensures.into-iter-gives.0 in
+    ∙ c.loop-request.invariant.2 ∙ c.into_iter-request-iterator.ensures.into_iter_gives.0 in
     let kept = sym (c.loop-request.invariant.6 ∙ c.open-roster.ensures.lent) in (
       run.0 ∙ ap (λ xs. answers o plain start (map call_of xs)) all,
       subst (λ cells. Holds o plain size (final o plain start (map call_of (vec_items c.args.requests))) cells) (sym (c.cells·1.given.1.1 kept))

@@ -13,9 +13,9 @@ use Rattle.roster.proofs.rows.composed_row_of.Goals as goal
 pub loop-i-init : goal.loop-i-init
 loop-i-init g c size led held =
     let table = c.args.table.now in
-    let w = c.to-plain.result in
+    let w = c.to_plain.result in
     let kept : drop 1 table ≡ drop 1 (set table 0 w) = sym (drop-set-lt 1 table 0 w (omega arith)) in
-    row_first (laws_semi g.met.F.Ring.laws) g.F.Ring.plain table c.one.result w (omega arith) c.one.ensures c.to-plain.ensures
+    row_first (laws_semi g.met.F.Ring.laws) g.F.Ring.plain table c.one.result w (omega arith) c.one.ensures c.to_plain.ensures
     ∙ ap (λ t. map g.F.Ring.plain (row (semi g.F.Ring.ops) 1 []) ++ t) kept
 
 pub loop-i-preserved : goal.loop-i-preserved
@@ -27,17 +27,17 @@ loop-i-preserved g c size led held =
     let d = led.whole in
     let ps = figures led.lives in
     let i = c.loop-i.i in
-    let w = c.to-plain.result in
+    let w = c.to_plain.result in
     let entry = set c.args.table.now 0 w in
-    let l : Life g.row.F.Denot = record { alive = c.from-plain-alive.result; dead = c.add.result } in
+    let l : Life g.row.F.Denot = record { alive = c.from_plain-alive.result; dead = c.add.result } in
     let lives = c.count-n.ensures.lives size led held in
     let inside : i < length ps = rw length-map (omega arith) in
     let room : i + 1 < length entry = rw length-set (omega arith) in
     let some : 0 < length c.args.cells.now = omega (arith, c.count-n.ensures.within) in
     let within : i + 1 < length c.args.cells.now = omega (arith, c.count-n.ensures.within) in
-    let more = against_more o d ps i c.from-plain-whole.result c.from-plain-alive.result c.neg.result c.add.result inside
-    (read_figure figure back held 0 c.index-cells-0.result c.from-plain-whole.result some c.from-plain-whole.ensures)
-    (read_figure figure back held (i + 1) c.index-cells-i.result c.from-plain-alive.result within c.from-plain-alive.ensures)
+    let more = against_more o d ps i c.from_plain-whole.result c.from_plain-alive.result c.neg.result c.add.result inside
+    (read_figure figure back held 0 c.index-cells-0.result c.from_plain-whole.result some c.from_plain-whole.ensures)
+    (read_figure figure back held (i + 1) c.index-cells-i.result c.from_plain-alive.result within c.from_plain-alive.ensures)
     c.neg.ensures c.add.ensures in
     composed_join o plain d ps entry c.compose.new.table i l more
     (c.compose.ensures (against o d (take i ps)) (get_or entry (i + 1) w) (drop (i + 1 + 1) entry) (length_against o d ps i (omega (arith, inside)))
@@ -48,7 +48,7 @@ returns g c size led held =
     let o = g.F.Ring.ops in
     let plain = g.F.Ring.plain in
     let table = c.args.table.now in
-    let w = c.to-plain.result in
+    let w = c.to_plain.result in
     let n = c.count-n.result in
     let lives = c.count-n.ensures.lives size led held in
     let len : length (figures led.lives) ≡ n = rw length-map (sym lives) in

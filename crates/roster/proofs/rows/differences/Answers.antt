@@ -13,9 +13,9 @@ loop-r-preserved g c = (
   λ d ps rest is.
       differences_down g.met.F.Ring.laws g.F.Ring.plain d ps rest c.loop-r.table g.F.Ring.figure g.met.F.Ring.back
       (c.args.last + 1) c.args.from (c.loop-r.r - 1) c.loop-r.r c.index-table-r.result c.index-table-r-in-loop-r.result
-      c.from-plain-above.result c.from-plain.result c.neg.result c.add.result c.to-plain.result
+      c.from_plain-above.result c.from_plain.result c.neg.result c.add.result c.to_plain.result
       (omega arith) (omega arith) (omega arith) (c.loop-r.invariant.1 d ps rest is)
-      (c.from-plain-above.ensures ∙ ap g.F.Ring.figure c.index-table-r.is) (c.from-plain.ensures ∙ ap g.F.Ring.figure c.index-table-r-in-loop-r.is) c.neg.ensures c.add.ensures c.to-plain.ensures,
+      (c.from_plain-above.ensures ∙ ap g.F.Ring.figure c.index-table-r.is) (c.from_plain.ensures ∙ ap g.F.Ring.figure c.index-table-r-in-loop-r.is) c.neg.ensures c.add.ensures c.to_plain.ensures,
 )
 
 pub returns : goal.returns

@@ -11,15 +11,15 @@ pub loop-i-preserved : goal.loop-i-preserved
 loop-i-preserved g c d ps rest len is =
     triangle_more g.met.F.Ring.laws g.F.Ring.plain d ps rest c.differences.new.table c.count-last.result len c.loop-i.i (c.differences.ensures d ps rest (c.loop-i.invariant d ps rest len is))
 
-pub returns-then-is-empty : goal.returns-then-is-empty
-returns-then-is-empty g c size led held =
+pub returns-then-is_empty : goal.returns-then-is_empty
+returns-then-is_empty g c size led held =
     let o = g.F.Ring.ops in
     let plain = g.F.Ring.plain in
     let table = c.args.table.now in
     let empty : length c.args.cells.now ≡ 0 = search rules in
     let nobody : length led.lives ≡ 0 = omega (arith, length_held held) in
     let len : length (figures led.lives) ≡ 0 = rw length-map nobody in (
-      row_asked o plain led table _ 0 (sym nobody) (omega arith) (row_nobody g.met.F.Ring.laws plain led.whole (figures led.lives) table c.one.result c.to-plain.result len (omega arith) c.one.ensures c.to-plain.ensures),
+      row_asked o plain led table _ 0 (sym nobody) (omega arith) (row_nobody g.met.F.Ring.laws plain led.whole (figures led.lives) table c.one.result c.to_plain.result len (omega arith) c.one.ensures c.to_plain.ensures),
       asked held (is_refused o plain (answer o plain led (Triangle table))),
     )
 

@@ -15,11 +15,11 @@ loop-r-preserved g c size led held =
     let some : 0 < length c.args.cells.now = omega arith in
     let within : r < length c.args.cells.now = omega arith in
     weighing_more g.F.Ring.ops g.F.Ring.plain led.whole (figures led.lives) c.args.n (drop (c.args.n + 1) c.args.table.now) c.loop-r.r r
-    c.loop-r.power c.from-plain-whole.result c.from-plain.result c.mul.result c.mul-power.result c.to-plain.result c.loop-r.table
+    c.loop-r.power c.from_plain-whole.result c.from_plain.result c.mul.result c.mul-power.result c.to_plain.result c.loop-r.table
     (omega arith) (omega arith) (omega arith) (c.loop-r.invariant size led held)
-    (read_figure figure back held 0 c.index-cells-0.result c.from-plain-whole.result some c.from-plain-whole.ensures)
-    (read_sum figure back held r c.index-cells-r.result c.from-plain.result within c.from-plain.ensures)
-    c.mul.ensures c.to-plain.ensures c.mul-power.ensures
+    (read_figure figure back held 0 c.index-cells-0.result c.from_plain-whole.result some c.from_plain-whole.ensures)
+    (read_sum figure back held r c.index-cells-r.result c.from_plain.result within c.from_plain.ensures)
+    c.mul.ensures c.to_plain.ensures c.mul-power.ensures
 
 pub returns : goal.returns
 returns g c size led held = weighing_all g.F.Ring.ops g.F.Ring.plain led.whole (figures led.lives) c.args.n (drop (c.args.n + 1) c.args.table.now) c.loop-r.r c.loop-r.power c.loop-r.table (omega arith) (c.loop-r.invariant size led held)

@@ -8,7 +8,7 @@ loop-k-init g c = wiped_start (zero_cell g.F.Ring.ops g.F.Ring.plain) c.args.cel
 
 pub loop-k-preserved : goal.loop-k-preserved
 loop-k-preserved g c =
-    let zero : c.to-plain-zero.result ≡ g.F.Ring.plain g.F.Ring.ops.zero = cc in
+    let zero : c.to_plain-zero.result ≡ g.F.Ring.plain g.F.Ring.ops.zero = cc in
     wiped_step (zero_cell g.F.Ring.ops g.F.Ring.plain) c.args.cells.now c.args.place c.requires c.loop-k.cells c.loop-k.k _ (omega arith) (omega arith) (ap (λ z. record { figure = z; sum = z; number = 0 }) zero) c.loop-k.invariant
 
 pub returns : goal.returns

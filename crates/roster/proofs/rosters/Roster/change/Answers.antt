@@ -2,9 +2,9 @@ use Rattle.std.proofs.Common.{refl}
 use Rattle.roster.proofs.Calls.{change_absent, change_done}
 use Rattle.roster.proofs.rosters.Roster.change.Goals as goal
 
-pub returns-in-default : goal.returns-in-default
-returns-in-default g c = record {
-  met = change_absent g.F.Ring.ops g.F.Ring.plain c.args.number c.if-number-eq0.false c.args.figure c.args.self.now.cells.now c.in-default.ensures.found;
+pub returns-in_default : goal.returns-in_default
+returns-in_default g c = record {
+  met = change_absent g.F.Ring.ops g.F.Ring.plain c.args.number c.if-number-eq0.false c.args.figure c.args.self.now.cells.now c.in_default.ensures.found;
   lent = refl;
 }
 

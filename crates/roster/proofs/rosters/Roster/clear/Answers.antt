@@ -4,7 +4,7 @@ use Rattle.roster.proofs.rosters.Roster.clear.Goals as goal
 
 pub returns-then-self-gt0 : goal.returns-then-self-gt0
 returns-then-self-gt0 g c = record {
-  met = clear_done g.met.F.Ring.laws g.F.Ring.plain c.args.self.now.cells.now c.wipe-from.new.cells c.if-self-gt0.true c.wipe-from.ensures;
+  met = clear_done g.met.F.Ring.laws g.F.Ring.plain c.args.self.now.cells.now c.wipe_from.new.cells c.if-self-gt0.true c.wipe_from.ensures;
   lent = refl;
 }
 

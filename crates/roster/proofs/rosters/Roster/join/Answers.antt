@@ -10,12 +10,12 @@ returns-in-Some g c = record {
 
 pub returns-then-n-capacity : goal.returns-then-n-capacity
 returns-then-n-capacity g c = record {
-  met = join_full g.F.Ring.ops g.F.Ring.plain c.args.number c.if-number-eq0.false c.args.figure c.lives-n.result c.args.self.now.cells.now c.in-default.ensures.found c.lives-n.ensures.counted (omega arith);
+  met = join_full g.F.Ring.ops g.F.Ring.plain c.args.number c.if-number-eq0.false c.args.figure c.lives-n.result c.args.self.now.cells.now c.in_default.ensures.found c.lives-n.ensures.counted (omega arith);
   lent = refl;
 }
 
 pub returns : goal.returns
 returns g c = record {
-  met = join_done g.F.Ring.ops g.F.Ring.plain c.args.number c.if-number-eq0.false c.args.figure c.lives-n.result c.args.self.now.cells.now c.put-in.new.cells c.in-default.ensures.found c.lives-n.ensures.counted (omega arith) c.put-in.ensures;
+  met = join_done g.F.Ring.ops g.F.Ring.plain c.args.number c.if-number-eq0.false c.args.figure c.lives-n.result c.args.self.now.cells.now c.put_in.new.cells c.in_default.ensures.found c.lives-n.ensures.counted (omega arith) c.put_in.ensures;
   lent = refl;
 }
