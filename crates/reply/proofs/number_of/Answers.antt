@@ -5,13 +5,13 @@ use Rattle.std.proofs.ByRecursion.{All-more}
 use Rattle.reply.proofs.Bytes.{room}
 use Rattle.reply.proofs.number_of.Goals as goal
 
-pub overflow-mul-n : goal.overflow-mul-n
-overflow-mul-n c =
+pub overflow_mul-n : goal.overflow_mul-n
+overflow_mul-n c =
     let more = room c.args.bytes.now c.loop-b.b-index 0 c.loop-b-test.true c.requires c.loop-b.invariant.1 (omega arith) in
     omega (arith, c.loop-b.invariant.0)
 
-pub overflow-add-n : goal.overflow-add-n
-overflow-add-n c =
+pub overflow_add-n : goal.overflow_add-n
+overflow_add-n c =
     let more = room c.args.bytes.now c.loop-b.b-index (get_or c.args.bytes.now c.loop-b.b-index 0) c.loop-b-test.true c.requires c.loop-b.invariant.1 (omega arith) in
     omega (arith, c.loop-b.invariant.0)
 

@@ -8,7 +8,7 @@ returns g c size l held =
     let o = g.F.Ring.ops in
     let plain = g.F.Ring.plain in
     let p = g.F.Packable in
-    let said = c.in-ok-reply.ensures in
+    let said = c.in_ok-reply.ensures in
     c.unpack.ensures
     ∙ replied_unpacked o plain p.kind p.width p.bits g.met.F.Packable.admitted c.args.roster.now.cells.now c.args.question c.args.k _ c.reply.new.out (omega arith) said.output size l held
     ∙ asked_so c.args.question tt (fields_for o plain p.kind p.bits l c.args.question c.args.k) said.refusal
