@@ -56,7 +56,7 @@ fn run(lines: &mut Lines, printer: &mut Printer) -> anyhow::Result<()> {
 fn main(rt: HostRuntime) -> anyhow::Result<()> {
     let input = input(&rt)?;
     let mut lines = Lines::new(rt.alloc(), &input);
-    let mut printer = Printer::new(rt.alloc(), rt.stdout());
+    let mut printer = Printer::new(rt.alloc(), rt.stdout())?;
     run(&mut lines, &mut printer)?;
     if printer.finish()? {
         return Ok(());

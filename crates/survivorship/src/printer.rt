@@ -1,8 +1,11 @@
 //! What is printed for each line.
+ghost use Rattle.std.specs.Prelude.{◌≡◌, IfErr};
+ghost use Rattle.std.specs.IoError.{error_kind};
+
 use crate::answers::{Unanswered, done};
 use crate::text::echo;
 use std::alloc::{AllocError, Global};
-use std::io::{BufWriter, Stdout, Write};
+use std::io::{self, BufWriter, ErrorKind, Stdout, Write};
 
 /// What is printed, and whether every line so far was understood.
 #[derive(Drop)]
@@ -13,12 +16,15 @@ pub struct Printer {
 }
 
 impl Printer {
-    pub fn new(heap: Global, out: Stdout) -> Printer {
-        Printer {
+    /// Where there is no memory for the buffer, nothing was printed.
+    pub fn new(heap: Global, out: Stdout) -> io::Result<Printer>
+        ensures { IfErr result (λ e. error_kind e ≡ ErrorKind.OutOfMemory) }
+    {
+        Ok(Printer {
             heap,
-            out: BufWriter::new(out),
+            out: BufWriter::new(heap, out)?,
             understood: true,
-        }
+        })
     }
 
     /// Prints a command's line.

@@ -4,6 +4,6 @@ use Rattle.survivorship.proofs.answers.filled.Goals as goal
 
 pub loop-preserved : goal.loop-preserved
 loop-preserved g c =
-    c.in-ok-push.ensures.items
+    c.in_ok-push.ensures.items
     ∙ ap (λ xs. xs ++ (c.args.value ∷ [])) c.loop.invariant
     ∙ replicate_more c.loop.counter c.args.value

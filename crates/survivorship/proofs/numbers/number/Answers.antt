@@ -3,8 +3,8 @@ use Rattle.survivorship.specs.Text.{digit}
 use Rattle.survivorship.proofs.Decimal.{bounds, goes_on, no_digit, too_large, ends}
 use Rattle.survivorship.proofs.numbers.number.Goals as goal
 
-pub returns-then-not-is-digit : goal.returns-then-not-is-digit
-returns-then-not-is-digit c =
+pub returns-then-not-is_digit : goal.returns-then-not-is_digit
+returns-then-not-is_digit c =
     let d : digit (get_or c.args.word.now c.loop-b.b-index 0) ≡ false = search rules in
     let h : c.loop-b.b-index < length c.args.word.now = omega arith in
     record {
