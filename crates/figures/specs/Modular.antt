@@ -1,7 +1,7 @@
 -- The laws of arithmetic modulo m, once for every modulus and every type that holds such numbers. Assumes nothing.
-use Rattle.std.specs.Prelude.{◌≡◌, ℕ, ◌+◌, ◌-◌, ◌*◌, ◌/◌, ◌%◌, ◌<◌, ◌≤◌}
-use Rattle.std.proofs.Common.{sym, ap, ap₂, ◌∙◌, add_comm, add_assoc, add-zero, mul_comm, mul_assoc, mul-add, mod-lt, mod-eq_of_lt, div-add-mod', mul-one, add-mul, arith}
-use Rattle.std.proofs.Math.Nat.{mod_self, mod-zero, mod-add-mod, add-mod-mod, add-mul-mod_self_right}
+use Rattle.std.specs.Prelude.{◌≡◌, ℕ, ◌+◌, ◌-◌, ◌*◌, ◌/◌, ◌%◌, ◌<◌}
+use Rattle.std.proofs.Common.{sym, ap, ap₂, ◌∙◌, add_comm, add_assoc, add-zero, mul_comm, mul_assoc, mul-add, mod-eq_of_lt, div-add-mod', mul-one, arith}
+use Rattle.std.proofs.Math.Nat.{mod_self, mod-add-mod, add-mod-mod, add-mul-mod_self_right}
 use Rattle.algebra.specs.Ring.{Ops, Laws}
 
 -- What makes `o` the arithmetic modulo m: a figure is told by its number, which lies below m, and the operations work on the numbers.

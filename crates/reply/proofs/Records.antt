@@ -1,16 +1,15 @@
 -- A record's fields are narrow enough for their places, and acceptable. Assumes nothing.
-use Rattle.std.proofs.Common.{◌≡◌, ℕ, ◌+◌, ◌*◌, ◌^◌, ◌<◌, ◌≤◌, Bool, true, false, cond, ◌&&◌, ◌||◌, eqb, ltb, leb, List, length, Ok, Err, Result, sym, refl, ap, ◌∙◌, subst, lt_of_lt_of_le, arith, lit<, lit≤, pow_pos, pow_mono, eq-eqb, eqb-true, le-leb}
+use Rattle.std.proofs.Common.{◌≡◌, ℕ, ◌^◌, ◌<◌, ◌≤◌, Bool, true, false, cond, ◌&&◌, eqb, leb, List, length, Ok, Err, sym, refl, ap, ◌∙◌, subst, lt_of_lt_of_le, arith, lit<, pow_mono, eq-eqb, eqb-true, le-leb}
 use borrow.Author.Tests.{clash}
 use Rattle.std.specs.Int.Digits.{number_from_digits, AllBelowBase}
 use Rattle.std.proofs.lemmas.Int.Digits.{number_lt}
 use Rattle.std.proofs.lemmas.Bool.Decides.{nat_tests}
 use Rattle.figures.specs.Packs.{Admitted}
 use Rattle.reply.specs.Layout.{part, fields_in, spare_in, Holds}
-use Rattle.reply.specs.Rules.{replied, fields_of, question_number, kindly, counts, answered, refused, told, acceptable, checked, unpacked}
+use Rattle.reply.specs.Rules.{replied, question_number, kindly, acceptable, checked, unpacked}
 use Rattle.reply.specs.declared.Fields.{Fields}
 use Rattle.reply.specs.declared.Question.{Question}
 use Rattle.reply.specs.declared.Question.TheVariants.{Exactly, AtLeast}
-use Rattle.reply.specs.declared.Record.{Record}
 use Rattle.reply.specs.declared.Refusal.{Refusal}
 use Rattle.reply.specs.declared.Refusal.TheVariants.{WrongSize, Unacceptable}
 use Rattle.reply.specs.declared.Reply.{Reply}

@@ -1,5 +1,5 @@
 -- What a reply record may say. Assumes nothing.
-use Rattle.std.specs.Prelude.{ℕ, Bool, cond, not, ◌&&◌, ◌||◌, List, length, Ok, Err, Result, ◌==◌, nat_le, nat_lt}
+use Rattle.std.specs.Prelude.{ℕ, Bool, cond, ◌&&◌, ◌||◌, List, length, Ok, Err, Result, ◌==◌, nat_le, nat_lt}
 use Rattle.figures.specs.Residues.{modulus}
 use Rattle.reply.specs.Layout.{fields_in, spare_in}
 use Rattle.reply.specs.declared.Fields.{Fields}

@@ -1,8 +1,8 @@
 -- The calls' links, from what was found and what was done. Assumes nothing.
-use Rattle.std.proofs.Common.{◌≡◌, ℕ, ◌+◌, ◌-◌, ◌<◌, ◌≤◌, true, false, cond, eqb, ◌≢◌, List, [], ◌∷◌, ◌++◌, length, take, replicate, Some, None, sym, refl, ap, ◌∙◌, subst, arith}
+use Rattle.std.proofs.Common.{◌≡◌, ℕ, ◌-◌, ◌<◌, ◌≤◌, cond, eqb, ◌≢◌, List, [], ◌++◌, length, take, replicate, Some, None, sym, refl, ap, ◌∙◌, subst, arith}
 use Rattle.std.proofs.lemmas.Bool.{eq-eqb, ne_eqb, cond-true, cond-false}
 use Rattle.algebra.specs.Ring.{Ops, Laws}
-use Rattle.roster.specs.Ledger.{Ledger, capacity_of, Call, Join, Leave, Change, Clear, Answer, Done, Refused, present, place_of, answer, granted, is_refused, next}
+use Rattle.roster.specs.Ledger.{Ledger, capacity_of, Call, Join, Leave, Change, Clear, Answer, Done, Refused, present, place_of, answer, granted, is_refused}
 use Rattle.roster.specs.Cells.{laid, Holds, Met, zero_cell}
 use Rattle.roster.specs.Passes.{joined, left, altered}
 use Rattle.roster.specs.declared.cells.Cell.{Cell}

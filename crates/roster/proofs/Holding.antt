@@ -5,16 +5,15 @@ use lib.ListN.{length-map}
 use Rattle.std.specs.List.{range_with_len, AllByRecursion as All}
 use Rattle.std.proofs.lemmas.List.FromFn.{length-map-range_with_len, get_or-map-range_with_len}
 use Rattle.std.proofs.ByRecursion.{All-push}
-use Rattle.std.proofs.lemmas.List.{get_or_past, get_or_push, get_or_at, length_push, nil_from_length}
+use Rattle.std.proofs.lemmas.List.{get_or_past, get_or_at, length_push, nil_from_length}
 use Rattle.algebra.specs.Ring.{Ops, Laws}
 use Rattle.algebra.specs.Sums.{elementary}
 use Rattle.algebra.proofs.Rows.{set_map_counting, map_counting_constant}
 use Rattle.algebra.proofs.Elementary.{elementary_zero, elementary_suc_at, elementary_suc_nil, elementary_beyond}
-use Rattle.roster.specs.Ledger.{Member, Ledger, figures, numbers, place_of, without, changed, capacity_of}
+use Rattle.roster.specs.Ledger.{Member, Ledger, figures, numbers, place_of}
 use Rattle.roster.specs.Cells.{cell_at, laid, Holds, zero_cell}
 use Rattle.roster.specs.Passes.{cell_of, cells_of, Ends, Multiplied, Closed, joined, left, altered}
 use Rattle.roster.specs.declared.cells.Cell.{Cell}
-use Rattle.roster.proofs.Laying.{length_held}
 use Rattle.roster.proofs.Places.{Around, around}
 use Rattle.roster.proofs.Sums.{same_cell}
 

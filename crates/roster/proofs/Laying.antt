@@ -1,14 +1,13 @@
 -- Reading and writing cells that are laid out from a ledger. Assumes nothing.
-use Rattle.std.proofs.Common.{◌≡◌, ℕ, zero, suc, ◌+◌, ◌-◌, ◌<◌, ◌≤◌, cond, ltb, ◌≢◌, ◌⊎◌, List, [], ◌∷◌, map, length, get_or, set, sym, refl, ap, ◌∙◌, subst, inl, inr, zero-add, add-one, arith}
+use Rattle.std.proofs.Common.{◌≡◌, ℕ, zero, suc, ◌+◌, ◌<◌, ◌≤◌, cond, ltb, ◌≢◌, ◌⊎◌, List, [], ◌∷◌, map, length, get_or, set, sym, ap, ◌∙◌, inl, inr, zero-add, add-one, arith}
 use lib.ListN.{length-map}
 use Rattle.std.specs.List.{range_with_len, AllByRecursion as All}
 use Rattle.std.proofs.lemmas.List.FromFn.{length-map-range_with_len, get_or-map-range_with_len}
-use Rattle.std.proofs.ByRecursion.{All-get_or}
-use Rattle.std.proofs.lemmas.List.{get_or-map, get_or_past}
+use Rattle.std.proofs.lemmas.List.{get_or_past}
 use Rattle.std.proofs.lemmas.Bool.{cases_lt, lt-ltb, le-ltb, cond-true, cond-false}
-use Rattle.algebra.specs.Ring.{Ops, Laws}
+use Rattle.algebra.specs.Ring.{Ops}
 use Rattle.algebra.proofs.Rows.{map_counting_same, set_map_counting}
-use Rattle.roster.specs.Ledger.{Member, Ledger, figures, numbers, capacity_of}
+use Rattle.roster.specs.Ledger.{Member, Ledger, numbers}
 use Rattle.roster.specs.Cells.{cell_at, laid, Holds}
 use Rattle.roster.specs.declared.cells.Cell.{Cell}
 

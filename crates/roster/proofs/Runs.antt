@@ -4,7 +4,7 @@ use lib.Seq.{take-append-le}
 use Rattle.algebra.specs.Ring.{Ops}
 use Rattle.roster.specs.Ledger.{Ledger, Call, Answer, answer, next, answers, final}
 use Rattle.roster.specs.Cells.{Holds, Met, Chain, none, link}
-use Rattle.roster.specs.Runs.{Follows, ChainsFollow}
+use Rattle.roster.specs.Runs.{Follows}
 use Rattle.roster.specs.declared.cells.Cell.{Cell}
 
 module _ {F P : Type 0} (o : Ops F) (plain : F → P) where

@@ -1,4 +1,4 @@
-use Rattle.std.proofs.Common.{◌≡◌, ℕ, ◌*◌, ◌%◌, ◌^◌, ◌<◌, ◌≤◌, sym, ◌∙◌, subst, arith, pow_pos}
+use Rattle.std.proofs.Common.{◌^◌, ◌<◌, ◌≤◌, ◌∙◌, arith, pow_pos}
 use Rattle.reply.proofs.Bytes.{cut_width}
 use Rattle.reply.proofs.figure_bits.Goals as goal
 

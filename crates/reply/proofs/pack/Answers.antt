@@ -1,4 +1,4 @@
-use Rattle.std.proofs.Common.{◌≡◌, ◌^◌, ◌<◌, length, sym, refl, ap, ◌∙◌, subst, div-one, arith}
+use Rattle.std.proofs.Common.{◌≡◌, ◌^◌, ◌<◌, length, sym, ap, ◌∙◌, subst, div-one, arith}
 use Rattle.std.specs.Int.Digits.{number_from_digits, AllBelowBase}
 use Rattle.reply.specs.Rules.{fields_of}
 use Rattle.reply.proofs.Bytes.{bytes_of, bytes_under, number_bytes}

@@ -1,5 +1,5 @@
-use Rattle.std.proofs.Common.{ap, ◌∙◌}
-use Rattle.reply.specs.Rules.{fields_of, unpacked}
+use Rattle.std.proofs.Common.{◌∙◌}
+use Rattle.reply.specs.Rules.{fields_of}
 use Rattle.reply.proofs.Records.{replied_acceptable, holds_unpacked}
 use Rattle.reply.proofs.pack_then_unpack.Goals as goal
 

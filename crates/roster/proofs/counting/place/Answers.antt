@@ -1,7 +1,6 @@
-use Rattle.std.proofs.Common.{◌≡◌, ℕ, ◌+◌, ◌<◌, ◌⊎◌, length, get_or, sym, ap, ◌∙◌, inl, inr, arith}
+use Rattle.std.proofs.Common.{◌<◌, length, ap, ◌∙◌, arith}
 use Rattle.std.proofs.lemmas.List.{get_or_default}
-use Rattle.std.proofs.lemmas.Bool.{cases_eq}
-use Rattle.roster.proofs.Places.{NotUpTo, not_more, place_found, place_missing}
+use Rattle.roster.proofs.Places.{not_more, place_found, place_missing}
 use Rattle.roster.proofs.counting.place.Goals as goal
 
 pub loop-k-init : goal.loop-k-init

@@ -1,4 +1,3 @@
-use Rattle.std.proofs.Common.{◌≡◌, ◌-◌, ◌≤◌}
 use Rattle.roster.proofs.Places.{NotUpTo}
 use Rattle.roster.proofs.counting.place.Given as goal
 

@@ -1,4 +1,4 @@
-use Rattle.std.proofs.Common.{◌+◌, ◌<◌, length, arith}
+use Rattle.std.proofs.Common.{◌<◌, length, arith}
 use borrow.Author.Rules.{scaled_Fits}
 use Rattle.roster.proofs.Holding.{alter_held}
 use Rattle.roster.proofs.edits.alter.Goals as goal

@@ -1,4 +1,4 @@
-use Rattle.std.proofs.Common.{◌+◌, ◌-◌, ◌<◌, length, arith}
+use Rattle.std.proofs.Common.{◌+◌, ◌<◌, length, arith}
 use borrow.Author.Rules.{scaled_Fits}
 use Rattle.roster.proofs.Gaps.{closing_start, closing_step, closing_end}
 use Rattle.roster.proofs.writing.close_gap.Goals as goal

@@ -1,4 +1,4 @@
-use Rattle.std.proofs.Common.{◌≡◌, ◌+◌, ◌-◌, ◌<◌, length, ap, ◌∙◌, arith}
+use Rattle.std.proofs.Common.{◌≡◌, ◌-◌, ◌<◌, length, arith}
 use borrow.Author.Rules.{scaled_Fits}
 use Rattle.roster.proofs.Sums.{divide_step, divide_end}
 use Rattle.roster.proofs.writing.divide_out.Goals as goal

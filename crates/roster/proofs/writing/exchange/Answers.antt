@@ -1,4 +1,4 @@
-use Rattle.std.proofs.Common.{◌≡◌, ◌+◌, ◌-◌, ◌<◌, length, ap, ◌∙◌, arith}
+use Rattle.std.proofs.Common.{◌≡◌, ◌<◌, length, arith}
 use borrow.Author.Rules.{scaled_Fits}
 use Rattle.roster.proofs.Sums.{exchange_start, exchange_step, exchange_end}
 use Rattle.roster.proofs.writing.exchange.Goals as goal

@@ -1,4 +1,4 @@
-use Rattle.std.proofs.Common.{◌≡◌, ◌+◌, ◌-◌, ◌<◌, length, ap, ◌∙◌, arith}
+use Rattle.std.proofs.Common.{◌≡◌, ◌-◌, ◌<◌, length, arith}
 use borrow.Author.Rules.{scaled_Fits}
 use Rattle.roster.proofs.Sums.{multiply_start, multiply_step, multiply_end}
 use Rattle.roster.proofs.writing.multiply_in.Goals as goal

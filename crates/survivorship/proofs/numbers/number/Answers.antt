@@ -1,6 +1,6 @@
-use Rattle.std.proofs.Common.{◌≡◌, ◌+◌, ◌-◌, ◌*◌, ◌<◌, ◌≤◌, true, false, length, get_or, drop, sym, ap, ◌∙◌, arith, rules}
+use Rattle.std.proofs.Common.{◌≡◌, ◌+◌, ◌-◌, ◌*◌, ◌<◌, true, false, length, get_or, drop, sym, ◌∙◌, arith, rules}
 use Rattle.survivorship.specs.Text.{digit}
-use Rattle.survivorship.proofs.Decimal.{bounds, goes_on, no_digit, too_large, ends}
+use Rattle.survivorship.proofs.Decimal.{goes_on, no_digit, too_large, ends}
 use Rattle.survivorship.proofs.numbers.number.Goals as goal
 
 pub returns-then-not-is_digit : goal.returns-then-not-is_digit

@@ -1,4 +1,4 @@
-use Rattle.std.proofs.Common.{◌≡◌, ◌+◌, ◌*◌, ◌<◌, length, drop, vec_items, sym, ap, ◌∙◌, arith}
+use Rattle.std.proofs.Common.{◌+◌, ◌*◌, ◌<◌, length, drop, vec_items, sym, ap, ◌∙◌, arith}
 use Rattle.survivorship.specs.Text.{hex_bytes}
 use Rattle.survivorship.proofs.Hex.{onto, hex_more, hex_high, hex_low, hex_all, hex_odd}
 use Rattle.survivorship.proofs.text.hex_bytes.Goals as goal

@@ -1,4 +1,4 @@
-use Rattle.std.proofs.Common.{refl, ◌∙◌, arith}
+use Rattle.std.proofs.Common.{refl, arith}
 use Rattle.roster.proofs.Calls.{join_present, join_full, join_done}
 use Rattle.roster.proofs.rosters.Roster.join.Goals as goal
 
