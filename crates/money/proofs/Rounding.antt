@@ -1,7 +1,7 @@
 -- Why a money row adds up to D, and how far its sums are from the exact ones. Assumes nothing.
 use Rattle.std.proofs.Common.{◌≡◌, ℕ, zero, suc, ◌+◌, ◌-◌, ◌*◌, ◌%◌, ◌^◌, ◌<◌, ◌≤◌, List, [], ◌∷◌, ◌++◌, map, length, get_or, drop, fold, sym, refl, ap, ◌∙◌, subst, ap₂, mul-le-mul_right, mul_comm, add-mul, mul-le-mul_left, mul-add, arith, length-append}
 use native.Mathlib.Nat.{pow-succ'}
-use Rattle.std.specs.List.{AllByRecursion as All}
+use Rattle.std.specs.List.{AllByRecursion}
 use Rattle.std.proofs.ByRecursion.{All-append}
 use Rattle.std.proofs.lemmas.List.{append_assoc, append-nil, map-append, drop_all}
 use Rattle.algebra.specs.Patterns.{Life, naturals, total, at_least}
@@ -108,7 +108,7 @@ exact_more ls p k =
     ∙ at_least_suc_at naturals_laws (life p) (map life ls) [] k
     ∙ ap (λ zs. p * at_least naturals k zs + (whole - p) * at_least naturals (suc k) zs) (append-nil (map life ls))
 
-exact_zero : (ls : List ℕ) → All (λ p. p ≤ whole) ls → exact ls 0 ≡ whole ^ length ls
+exact_zero : (ls : List ℕ) → AllByRecursion (λ p. p ≤ whole) ls → exact ls 0 ≡ whole ^ length ls
 exact_zero [] h = refl
 exact_zero (p ∷ ls) h =
     let e : p + (whole - p) ≡ whole = omega (arith, h.0) in
@@ -128,27 +128,27 @@ get_or_le_sum [] k = omega arith
 get_or_le_sum (x ∷ xs) zero = omega arith
 get_or_le_sum (x ∷ xs) (suc k) = omega (arith, get_or_le_sum xs k)
 
-rows_kept : (rest row : List ℕ) → All (λ p. p ≤ whole) rest → sum row ≡ whole
+rows_kept : (rest row : List ℕ) → AllByRecursion (λ p. p ≤ whole) rest → sum row ≡ whole
     → (sum (fold with_life row rest) ≡ whole) × (length (fold with_life row rest) ≡ length row + length rest)
 rows_kept [] row h e = (e, omega arith)
 rows_kept (p ∷ rest) row h e =
     let r = rows_kept rest (with_life row p) h.1 (with_sum p h.0 row e).0 in
     (r.0, omega (arith, r.1, length_with row p))
 
-pub row_sum : (lives : List ℕ) → All (λ p. p ≤ whole) lives → sum (money_row lives) ≡ whole
+pub row_sum : (lives : List ℕ) → AllByRecursion (λ p. p ≤ whole) lives → sum (money_row lives) ≡ whole
 row_sum lives h = (rows_kept lives (whole ∷ []) h refl).0
 
-pub row_long : (lives : List ℕ) → All (λ p. p ≤ whole) lives → length (money_row lives) ≡ length lives + 1
+pub row_long : (lives : List ℕ) → AllByRecursion (λ p. p ≤ whole) lives → length (money_row lives) ≡ length lives + 1
 row_long lives h = omega (arith, (rows_kept lives (whole ∷ []) h refl).1)
 
-pub row_small : (lives : List ℕ) → All (λ p. p ≤ whole) lives → (k : ℕ) → get_or (money_row lives) k 0 ≤ whole
+pub row_small : (lives : List ℕ) → AllByRecursion (λ p. p ≤ whole) lives → (k : ℕ) → get_or (money_row lives) k 0 ≤ whole
 row_small lives h k = omega (arith, get_or_le_sum (money_row lives) k, row_sum lives h)
 
 -- ---- all the bounds of a row
 abbrev Good : List ℕ → List ℕ → Type 0
 Good ls row = (sum row ≡ whole) × ((k : ℕ) → Near (length ls) (exact ls k) (sum (drop k row)))
 
-good_more : (ls row : List ℕ) (p : ℕ) → p ≤ whole → All (λ x. x ≤ whole) ls → 0 < length ls → Good ls row → Good (ls ++ p ∷ []) (with_life row p)
+good_more : (ls row : List ℕ) (p : ℕ) → p ≤ whole → AllByRecursion (λ x. x ≤ whole) ls → 0 < length ls → Good ls row → Good (ls ++ p ∷ []) (with_life row p)
 good_more ls row p le all some g = ((with_sum p le row g.0).0, near)
   where
     n : ℕ
@@ -167,7 +167,7 @@ good_more ls row p le all some g = ((with_sum p le row g.0).0, near)
         (near_more n (exact ls k) (exact ls (suc k)) (sum (drop k row)) (sum (drop (suc k) row)) t.0
         (sum (drop (suc k) (with_life row p))) p some le t.1 t.2 (g.1 k) (g.1 (suc k)))
 
-good_all : (rest ls row : List ℕ) → All (λ p. p ≤ whole) rest → All (λ p. p ≤ whole) ls → 0 < length ls → Good ls row
+good_all : (rest ls row : List ℕ) → AllByRecursion (λ p. p ≤ whole) rest → AllByRecursion (λ p. p ≤ whole) ls → 0 < length ls → Good ls row
     → Good (ls ++ rest) (fold with_life row rest)
 good_all [] ls row h all some g = rw (append-nil ls) g
 good_all (p ∷ rest) ls row h all some g =
@@ -206,10 +206,10 @@ near_none : (k : ℕ) → Near 0 (exact [] k) (sum (drop k (whole ∷ [])))
 near_none zero = (omega arith, omega arith)
 near_none (suc k) = rw (at_least_suc_nil naturals_laws k, drop_nil k) (omega arith, omega arith)
 
-pub near_all : (lives : List ℕ) → All (λ p. p ≤ whole) lives → (k : ℕ) → Near (length lives) (exact lives k) (factor_of lives k)
+pub near_all : (lives : List ℕ) → AllByRecursion (λ p. p ≤ whole) lives → (k : ℕ) → Near (length lives) (exact lives k) (factor_of lives k)
 near_all [] h k = near_none k
 near_all (p ∷ lives) h k =
     (good_all lives (p ∷ []) (with_life (whole ∷ []) p) h.1 (h.0, tt) (omega arith) (good_first p h.0)).1 k
 
-pub factor_past : (lives : List ℕ) → All (λ p. p ≤ whole) lives → (k : ℕ) → length lives < k → factor_of lives k ≡ 0
+pub factor_past : (lives : List ℕ) → AllByRecursion (λ p. p ≤ whole) lives → (k : ℕ) → length lives < k → factor_of lives k ≡ 0
 factor_past lives h k l = ap sum (drop_all k (money_row lives) (omega (arith, row_long lives h)))

@@ -1,6 +1,6 @@
 -- What the calls of `money_row` and `factor` give, put together. Assumes nothing.
 use Rattle.std.proofs.Common.{◌≡◌, ℕ, ◌+◌, ◌-◌, ◌<◌, ◌≤◌, List, [], ◌∷◌, ◌++◌, length, get_or, take, drop, set, sym, refl, ap, ◌∙◌, ap₂, arith, length-append}
-use Rattle.std.specs.List.{AllByRecursion as All}
+use Rattle.std.specs.List.{AllByRecursion}
 use Rattle.std.proofs.ByRecursion.{All-from_get_or, All-take}
 use Rattle.std.proofs.lemmas.List.{append_assoc, drop_at, drop_more, drop-set-lt, length-take-le, set_at, take_all, take_at}
 use Rattle.std.proofs.lemmas.List.Sums.{fold_more}
@@ -9,7 +9,7 @@ use Rattle.money.specs.Answer.{Admitted, FactorAnswered, RowAnswered}
 use Rattle.money.specs.Money.{whole, pass, with_life, money_row, factor_of}
 use Rattle.money.proofs.Rounding.{sum, get_or_le_sum, row_long, row_sum, near_all, factor_past}
 
-all_within : (lives : List ℕ) → Admitted lives → All (λ p. p ≤ whole) lives
+all_within : (lives : List ℕ) → Admitted lives → AllByRecursion (λ p. p ≤ whole) lives
 all_within lives a = All-from_get_or (λ p. p ≤ whole) lives 0 a.1
 
 push_zero : (xs : List ℕ) → sum (xs ++ 0 ∷ []) ≡ sum xs
@@ -23,7 +23,7 @@ starts (x ∷ xs) v h = refl
 -- one turn of the loop over the lives
 module _ (lives entry row : List ℕ) (i : ℕ) (a : Admitted lives) (l : i < length lives) (room : length lives < length entry)
     (so_far : row ≡ money_row (take i lives) ++ drop (i + 1) entry) where
-  within : All (λ p. p ≤ whole) (take i lives)
+  within : AllByRecursion (λ p. p ≤ whole) (take i lives)
   within = All-take (λ p. p ≤ whole) i lives (all_within lives a)
 
   long : length (money_row (take i lives)) ≡ i + 1
@@ -84,7 +84,7 @@ factor_from lives before row k f le r e = (
     a : Admitted lives
     a = r.0
 
-    within : All (λ p. p ≤ whole) lives
+    within : AllByRecursion (λ p. p ≤ whole) lives
     within = all_within lives r.0
 
     is : f ≡ factor_of lives k

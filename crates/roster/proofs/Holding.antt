@@ -2,7 +2,7 @@
 use Rattle.std.proofs.Common.{◌≡◌, ℕ, zero, suc, ◌+◌, ◌-◌, ◌<◌, ◌≤◌, ◌≢◌, List, [], ◌∷◌, ◌++◌, map, length, get_or, take, set, replicate, Some, sym, refl, ap, ◌∙◌, subst, ap₂, append-nil, zero-add, add-one, arith, length-append}
 use mathlib.Core.List.{map-append}
 use lib.ListN.{length-map}
-use Rattle.std.specs.List.{range_with_len, AllByRecursion as All}
+use Rattle.std.specs.List.{range_with_len, AllByRecursion}
 use Rattle.std.proofs.lemmas.List.FromFn.{length-map-range_with_len, get_or-map-range_with_len}
 use Rattle.std.proofs.ByRecursion.{All-push}
 use Rattle.std.proofs.lemmas.List.{get_or_past, get_or_at, length_push, nil_from_length}
@@ -41,15 +41,15 @@ get_or_other e x y [] ys (suc k) ne = refl
 get_or_other e x y (z ∷ xs) ys zero ne = refl
 get_or_other e x y (z ∷ xs) ys (suc k) ne = get_or_other e x y xs ys k (λ q. ne (ap suc q))
 
-all_without : {X : Type 0} (Q : X → Type 0) (bs : List X) (m : X) (cs : List X) → All Q (bs ++ (m ∷ cs)) → All Q (bs ++ cs)
+all_without : {X : Type 0} (Q : X → Type 0) (bs : List X) (m : X) (cs : List X) → AllByRecursion Q (bs ++ (m ∷ cs)) → AllByRecursion Q (bs ++ cs)
 all_without Q [] m cs ok = ok.1
 all_without Q (b ∷ bs) m cs ok = (ok.0, all_without Q bs m cs ok.1)
 
-all_instead : {X : Type 0} (Q : X → Type 0) (bs : List X) (m m' : X) (cs : List X) → Q m' → All Q (bs ++ (m ∷ cs)) → All Q (bs ++ (m' ∷ cs))
+all_instead : {X : Type 0} (Q : X → Type 0) (bs : List X) (m m' : X) (cs : List X) → Q m' → AllByRecursion Q (bs ++ (m ∷ cs)) → AllByRecursion Q (bs ++ (m' ∷ cs))
 all_instead Q [] m m' cs q ok = (q, ok.1)
 all_instead Q (b ∷ bs) m m' cs q ok = (ok.0, all_instead Q bs m m' cs q ok.1)
 
-all_at : {X : Type 0} (Q : X → Type 0) (bs : List X) (m : X) (cs : List X) → All Q (bs ++ (m ∷ cs)) → Q m
+all_at : {X : Type 0} (Q : X → Type 0) (bs : List X) (m : X) (cs : List X) → AllByRecursion Q (bs ++ (m ∷ cs)) → Q m
 all_at Q [] m cs ok = ok.0
 all_at Q (b ∷ bs) m cs ok = all_at Q bs m cs ok.1
 
@@ -181,7 +181,7 @@ module _ {F P : Type 0} {o : Ops F} (L : Laws o) (plain : F → P) where
       record {
         room = held.room;
         few = omega (arith, held.few, ap length a.gone);
-        numbered = subst (All (λ m. m.number ≢ 0)) (sym a.gone) (all_without (λ m. m.number ≢ 0) bs m cs (subst (All (λ m. m.number ≢ 0)) a.are held.numbered));
+        numbered = subst (AllByRecursion (λ m. m.number ≢ 0)) (sym a.gone) (all_without (λ m. m.number ≢ 0) bs m cs (subst (AllByRecursion (λ m. m.number ≢ 0)) a.are held.numbered));
         are = after_is ∙ ap (laid o plain size l.whole) (sym a.gone);
       }
 
@@ -215,11 +215,11 @@ module _ {F P : Type 0} {o : Ops F} (L : Laws o) (plain : F → P) where
       ∙ set_map_counting f (cell_at o plain l.whole new) size place cell
       (same_cell cell (cell_at o plain l.whole new place) (written ∙ ap plain (sym (field_at_lem (λ m. m.figure) l.whole o.zero bs m' cs place a.here))) (ap (λ c. c.sum) again-is) number_is)
       (λ k h ne. same_cell (f k) (cell_at o plain l.whole new k) (ap plain (field_other (λ m. m.figure) l.whole o.zero bs m m' cs place k a.here ne)) refl (field_other (λ m. m.number) 0 0 bs m m' cs place k a.here ne)) in
-      let ok : All (λ m. m.number ≢ 0) all = subst (All (λ m. m.number ≢ 0)) a.are held.numbered in
+      let ok : AllByRecursion (λ m. m.number ≢ 0) all = subst (AllByRecursion (λ m. m.number ≢ 0)) a.are held.numbered in
       record {
         room = held.room;
         few = omega (arith, held.few, ap length (a.anew x), ap length a.are);
-        numbered = subst (All (λ m. m.number ≢ 0)) (sym (a.anew x)) (all_instead (λ m. m.number ≢ 0) bs m m' cs (λ z. all_at (λ m. m.number ≢ 0) bs m cs ok (a.named ∙ z)) ok);
+        numbered = subst (AllByRecursion (λ m. m.number ≢ 0)) (sym (a.anew x)) (all_instead (λ m. m.number ≢ 0) bs m m' cs (λ z. all_at (λ m. m.number ≢ 0) bs m cs ok (a.named ∙ z)) ok);
         are = after-laid ∙ ap (laid o plain size l.whole) (sym (a.anew x));
       }
 

@@ -1,7 +1,7 @@
 -- Reading and writing cells that are laid out from a ledger. Assumes nothing.
 use Rattle.std.proofs.Common.{◌≡◌, ℕ, zero, suc, ◌+◌, ◌<◌, ◌≤◌, cond, ltb, ◌≢◌, ◌⊎◌, List, [], ◌∷◌, map, length, get_or, set, sym, ap, ◌∙◌, inl, inr, zero-add, add-one, arith}
 use lib.ListN.{length-map}
-use Rattle.std.specs.List.{range_with_len, AllByRecursion as All}
+use Rattle.std.specs.List.{range_with_len, AllByRecursion}
 use Rattle.std.proofs.lemmas.List.FromFn.{length-map-range_with_len, get_or-map-range_with_len}
 use Rattle.std.proofs.lemmas.List.{get_or_past}
 use Rattle.std.proofs.lemmas.Bool.{cases_lt, lt-ltb, le-ltb, cond-true, cond-false}
@@ -16,7 +16,7 @@ abbrev pub NumberedUpTo : {P : Type 0} → List (Cell P) → ℕ → Type 0
 NumberedUpTo {P} cells n = (k : ℕ) (e : Cell P) → k < n → (get_or cells (k + 1) e).number ≢ 0
 
 -- A life's number is not zero, and past the last life stands zero.
-pub number_some : {F : Type 0} (lives : List (Member F)) → All (λ m. m.number ≢ 0) lives → (k : ℕ) → k < length lives → get_or (0 ∷ numbers lives) (k + 1) 0 ≢ 0
+pub number_some : {F : Type 0} (lives : List (Member F)) → AllByRecursion (λ m. m.number ≢ 0) lives → (k : ℕ) → k < length lives → get_or (0 ∷ numbers lives) (k + 1) 0 ≢ 0
 number_some [] ok k h = absurd (omega arith)
 number_some (m ∷ ms) ok zero h = ok.0
 number_some (m ∷ ms) ok (suc k) h = rw add-one (rw add-one at (number_some ms ok.1 k (omega arith)))

@@ -1,6 +1,6 @@
 -- What the cells of a roster hold, and what a call does to them. Assumes nothing.
 use Rattle.std.specs.Prelude.{◌≡◌, ℕ, ◌≤◌, ◌≢◌, List, [], ◌∷◌, map, length, slice_index, slice_index_or}
-use Rattle.std.specs.List.{range_with_len, AllByRecursion as All}
+use Rattle.std.specs.List.{range_with_len, AllByRecursion}
 use Rattle.algebra.specs.Ring.{Ops}
 use Rattle.algebra.specs.Sums.{elementary}
 use Rattle.roster.specs.Ledger.{Member, Ledger, Call, Answer, figures, numbers, capacity_of, answer, next}
@@ -29,7 +29,7 @@ module _ {F P : Type 0} (o : Ops F) (plain : F → P) where
   pub record Holds (size : ℕ) (l : Ledger F) (cells : List (Cell P)) : Type 0 where
     pub room : l.capacity ≡ capacity_of size
     pub few : length l.lives ≤ l.capacity
-    pub numbered : All (λ m. m.number ≢ 0) l.lives
+    pub numbered : AllByRecursion (λ m. m.number ≢ 0) l.lives
     pub are : cells ≡ laid size l.whole l.lives
 
   -- What each call promises: whatever ledger the cells held, the answer is that ledger's, and they hold its next state.

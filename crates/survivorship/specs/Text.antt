@@ -1,6 +1,6 @@
 -- What the program reads and prints, as functions on bytes. Assumes nothing.
 use Rattle.std.specs.Prelude.{ℕ, ◌+◌, ◌-◌, ◌*◌, ◌/◌, ◌%◌, Bool, true, cond, ◌&&◌, ◌||◌, List, [], ◌∷◌, ◌++◌, map, take, drop, Some, None, codes, decimal, Option, ◌==◌, nat_le}
-use Rattle.std.specs.Int.Digits.{number_from_digits as number}
+use Rattle.std.specs.Int.Digits.{number_from_digits}
 use Rattle.reply.specs.declared.Fields.{Fields}
 use Rattle.figures.specs.declared.kinds.Dual.{Dual}
 
@@ -55,7 +55,7 @@ digits (c ∷ cs) = digit c && digits cs
 
 -- The number that decimal digits write.
 abbrev pub value_of : List ℕ → ℕ
-value_of word = number 10 (map (λ c. c - 48) word)
+value_of word = number_from_digits 10 (map (λ c. c - 48) word)
 
 -- The number that a word writes; none where it is empty, a byte is no digit, or the number is above the limit.
 abbrev pub number_within : ℕ → List ℕ → Option ℕ
