@@ -10,32 +10,32 @@ mod text;
 mod typed;
 mod words;
 
-use anyhow::anyhow;
 use commands::obey;
 use printer::Printer;
 use sessions::open;
 use std::io::Read;
+use std::process::ExitCode;
 use std::{env, fs};
 use words::Lines;
 
-/// The file that the command line names, or standard input.
-fn input(rt: &HostRuntime) -> anyhow::Result<Vec<u8>> {
+/// The file that the command line names, or standard input; none where that is refused, which is said on standard error.
+fn input(rt: &HostRuntime) -> anyhow::Result<Option<Vec<u8>>> {
     let mut args = env::args(rt)?;
     let _ = args.next();
     let Some(path) = args.next() else {
         let mut bytes = Vec::new(rt.alloc());
         rt.stdin().read_to_end(&mut bytes)?;
-        return Ok(bytes);
+        return Ok(Some(bytes));
     };
     if args.next().is_some() {
         eprintln!(rt; "survivorship: one file at most")?;
-        return Err(anyhow!("more than one file"));
+        return Ok(None);
     }
     match fs::read(rt, path.as_str()) {
-        Ok(bytes) => Ok(bytes),
+        Ok(bytes) => Ok(Some(bytes)),
         Err(e) => {
             eprintln!(rt; "survivorship: {path}: {e}")?;
-            Err(e.into())
+            Ok(None)
         }
     }
 }
@@ -53,13 +53,16 @@ fn run(lines: &mut Lines, printer: &mut Printer) -> anyhow::Result<()> {
     Ok(())
 }
 
-fn main(rt: HostRuntime) -> anyhow::Result<()> {
-    let input = input(&rt)?;
+/// The status is 1 where a line was not understood, and where the input was refused.
+fn main(rt: HostRuntime) -> anyhow::Result<ExitCode> {
+    let Some(input) = input(&rt)? else {
+        return Ok(ExitCode::FAILURE);
+    };
     let mut lines = Lines::new(rt.alloc(), &input);
     let mut printer = Printer::new(rt.alloc(), rt.stdout())?;
     run(&mut lines, &mut printer)?;
     if printer.finish()? {
-        return Ok(());
+        return Ok(ExitCode::SUCCESS);
     }
-    Err(anyhow!("a line was not understood"))
+    Ok(ExitCode::FAILURE)
 }
