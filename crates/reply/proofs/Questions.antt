@@ -11,8 +11,8 @@ use Rattle.reply.specs.Rules.{acceptable, question_number, unpacked}
 use Rattle.reply.specs.declared.Fields.{Fields}
 use Rattle.reply.specs.declared.Question.{Question}
 use Rattle.reply.specs.declared.Question.TheVariants.{Exactly, AtLeast}
-use Rattle.reply.specs.declared.Refusal.{Refusal}
-use Rattle.reply.specs.declared.Refusal.TheVariants.{UnknownQuestion}
+use Rattle.reply.specs.declared.asked.Unwritten.{Unwritten}
+use Rattle.reply.specs.declared.asked.Unwritten.TheVariants.{UnknownQuestion}
 use Rattle.reply.specs.declared.Reply.TheVariants.{Answered, Refused, Lives}
 use Rattle.reply.proofs.Records.{replied_acceptable, holds_unpacked}
 
@@ -53,6 +53,6 @@ module _ {F P : Type 0} (o : Ops F) (plain : F → P) (kind width : ℕ) (bits :
 pub asked_so : {U A : Type 0} (question : ℕ) (u : U) (a : A) → Ok u ≡ asking 16 question u → Ok a ≡ asking 16 question a
 asked_so {U = U} {A = A} question u a e = by_question (leb 1 question && leb question 3) e
   where
-    by_question : (b : Bool) → ◌≡◌ {A = Result U Refusal} (Ok u) (cond b (Ok u) (Err UnknownQuestion)) → ◌≡◌ {A = Result A Refusal} (Ok a) (cond b (Ok a) (Err UnknownQuestion))
+    by_question : (b : Bool) → ◌≡◌ {A = Result U Unwritten} (Ok u) (cond b (Ok u) (Err UnknownQuestion)) → ◌≡◌ {A = Result A Unwritten} (Ok a) (cond b (Ok a) (Err UnknownQuestion))
     by_question true e = refl
     by_question false e = let z : ◌≡◌ {A = ℕ} 0 1 = cc in absurd (omega arith)

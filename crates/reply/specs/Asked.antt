@@ -6,8 +6,13 @@ use Rattle.roster.specs.Ledger.{Ledger, exactly_of, at_least_of}
 use Rattle.roster.specs.declared.cells.Cell.{Cell}
 use Rattle.reply.specs.Layout.{Holds}
 use Rattle.reply.specs.declared.Fields.{Fields}
-use Rattle.reply.specs.declared.Refusal.{Refusal}
-use Rattle.reply.specs.declared.Refusal.TheVariants.{WrongSize, UnknownQuestion}
+use Rattle.reply.specs.declared.asked.Unwritten.{Unwritten}
+use Rattle.reply.specs.declared.asked.Unwritten.TheVariants.{ShortOutput, UnknownQuestion}
+
+-- The numbers of a reply's refusals, the same in every crate.
+abbrev pub unwritten_number : Unwritten → ℕ
+unwritten_number ShortOutput = 16
+unwritten_number UnknownQuestion = 17
 
 -- The fields of a reply to question 1 or 2 over n lives: the k asked for and its figure, or the refusal where k is above 64.
 abbrev pub counted : ℕ → ℕ → ℕ → ℕ → ℕ → Fields
@@ -20,8 +25,8 @@ abbrev pub lives_only : ℕ → ℕ → Fields
 lives_only kind n = record { kind = kind; question = 3; refusal = 0; k = 0; lives = n; figure = 0 }
 
 -- Whether a question is asked at all: the output has room for a record, and the question is 1, 2 or 3.
-abbrev pub asking : {A : Type 0} → ℕ → ℕ → A → Result A Refusal
-asking size question a = cond (nat_le 16 size) (cond (nat_le 1 question && nat_le question 3) (Ok a) (Err UnknownQuestion)) (Err WrongSize)
+abbrev pub asking : {A : Type 0} → ℕ → ℕ → A → Result A Unwritten
+asking size question a = cond (nat_le 16 size) (cond (nat_le 1 question && nat_le question 3) (Ok a) (Err UnknownQuestion)) (Err ShortOutput)
 
 -- Over figures of a kind with this number, whose figures are packed as `bits`.
 module _ {F P : Type 0} (o : Ops F) (plain : F → P) (kind : ℕ) (bits : F → ℕ) where

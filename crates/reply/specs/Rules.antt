@@ -7,14 +7,13 @@ use Rattle.reply.specs.declared.Question.{Question}
 use Rattle.reply.specs.declared.Question.TheVariants.{Exactly, AtLeast}
 use Rattle.reply.specs.declared.Record.{Record}
 use Rattle.reply.specs.declared.Refusal.{Refusal}
-use Rattle.reply.specs.declared.Refusal.TheVariants.{WrongSize, UnknownQuestion, Unacceptable}
+use Rattle.reply.specs.declared.Refusal.TheVariants.{WrongSize, Unacceptable}
 use Rattle.reply.specs.declared.Reply.{Reply}
 use Rattle.reply.specs.declared.Reply.TheVariants.{Answered, Refused, Lives}
 
 -- The numbers of the refusals, the same in every crate.
 abbrev pub refusal_number : Refusal → ℕ
 refusal_number WrongSize = 16
-refusal_number UnknownQuestion = 17
 refusal_number Unacceptable = 18
 
 abbrev pub question_number : Question → ℕ

@@ -1,13 +1,29 @@
 //! The reply of a roster to a question.
-ghost use Rattle.std.specs.Prelude.{◌≡◌, ℕ, ◌<◌, ◌≤◌, true, false, ◌&&◌, length, MatchOption, MatchResult, nat_le};
+ghost use Rattle.std.specs.Prelude.{◌≡◌, ℕ, ◌<◌, ◌≤◌, true, false, ◌&&◌, length, Ok, MatchOption, MatchResult, nat_le};
 ghost use Rattle.roster.specs.Cells.{Holds};
 ghost use Rattle.roster.specs.Ledger.{Ledger};
-ghost use Rattle.reply.specs.Asked.{counted, asking, fields_for, Written};
+ghost use Rattle.reply.specs.Asked.{counted, asking, fields_for, unwritten_number, Written};
 ghost use Rattle.reply.specs.Rules.{replied, question_number};
 
 use crate::{Count, Fields, Question, Record, Refusal, Reply, pack, unpack};
 use figures::Packable;
 use roster::Roster;
+
+/// Why a reply was not written.
+#[derive(Clone, Copy, PartialEq, Eq, Debug)]
+pub enum Unwritten {
+    ShortOutput = 16,
+    UnknownQuestion = 17,
+}
+
+impl Unwritten {
+    /// The refusal's number.
+    pub fn number(self) -> u32
+        ensures { result ≡ unwritten_number self }
+    {
+        self as u32
+    }
+}
 
 /// A number of survivors that was asked for: none above 64.
 fn count_asked(k: u32) -> Option<Count>
@@ -57,17 +73,17 @@ pub fn reply<F: Packable>(
     question: u32,
     k: u32,
     out: &mut [u8],
-) -> Result<(), Refusal>
+) -> Result<(), Unwritten>
     ensures refusal { result ≡ asking (length out.old) question tt }
     ensures output { MatchResult result
         (λ _. Written F.Ring.ops F.Ring.plain F.Packable.kind F.Packable.bits roster.now.cells.now question k out.old out.new)
         (λ _. out.new ≡ out.old) }
 {
     if out.len() < 16 {
-        return Err(Refusal::WrongSize);
+        return Err(Unwritten::ShortOutput);
     }
     let Some(reply) = answered(roster, question, k) else {
-        return Err(Refusal::UnknownQuestion);
+        return Err(Unwritten::UnknownQuestion);
     };
     let lives = Count {
         number: roster.lives() as u8,
@@ -76,16 +92,17 @@ pub fn reply<F: Packable>(
     Ok(())
 }
 
-/// What was replied is read back: every question to every roster, over every kind that packs.
+/// What was replied is read back: every question to every roster, over every kind that packs. Outside is the reply's
+/// refusal, and inside what reading its bytes gives.
 pub fn reply_then_unpack<F: Packable>(
     roster: &Roster<'_, F>,
     question: u32,
     k: u32,
-) -> Result<Fields, Refusal>
+) -> Result<Result<Fields, Refusal>, Unwritten>
     ensures { (size : ℕ) (l : Ledger F) → Holds F.Ring.ops F.Ring.plain size l roster.now.cells.now
-        → result ≡ asking 16 question (fields_for F.Ring.ops F.Ring.plain F.Packable.kind F.Packable.bits l question k) }
+        → result ≡ asking 16 question (Ok (fields_for F.Ring.ops F.Ring.plain F.Packable.kind F.Packable.bits l question k)) }
 {
     let mut bytes = [0; 16];
     reply(roster, question, k, &mut bytes)?;
-    unpack(&bytes)
+    Ok(unpack(&bytes))
 }

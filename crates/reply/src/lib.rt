@@ -51,11 +51,10 @@ pub struct Fields {
     pub figure: u64,
 }
 
-/// Why bytes were not read as a record, or a reply was not written.
+/// Why bytes were not read as a record.
 #[derive(Clone, Copy, PartialEq, Eq, Debug)]
 pub enum Refusal {
     WrongSize = 16,
-    UnknownQuestion = 17,
     Unacceptable = 18,
 }
 

@@ -10,7 +10,7 @@ use crate::text::hex_text;
 use crate::typed::Typed;
 use crate::words::Lines;
 use figures::{Dual, Packable, Residue, Ring, Scenarios, Word};
-use reply::asked::reply;
+use reply::asked;
 use roster::{Cell, Refusal, Roster, Slip, close, take_into_use};
 use std::alloc::{AllocError, Global};
 
@@ -140,7 +140,7 @@ where
         }
         Request::Reply { question, k, bytes } => {
             let mut out = filled(heap, 0u8, bytes)?;
-            match reply(roster, question, k, &mut out) {
+            match asked::reply(roster, question, k, &mut out) {
                 Ok(()) => hex_text(heap, &out),
                 Err(refusal) => refused(heap, refusal.number()),
             }
@@ -149,7 +149,7 @@ where
 }
 
 /// A line between `open` and `close`.
-fn answer_line<F: Packable>(
+fn reply<F: Packable>(
     heap: Global,
     roster: &mut Roster<F>,
     words: &[&[u8]],
@@ -177,7 +177,7 @@ where
         if let [b"close"] = words.as_slice() {
             break;
         }
-        let answer = answer_line(printer.heap, roster, &words);
+        let answer = reply(printer.heap, roster, &words);
         printer.print(&words, answer)?;
     }
     Ok(())

@@ -1,4 +1,4 @@
-use Rattle.std.proofs.Common.{◌∙◌, arith}
+use Rattle.std.proofs.Common.{ap, ◌∙◌, arith, Ok}
 use Rattle.reply.specs.Asked.{fields_for}
 use Rattle.reply.proofs.Questions.{asked_so, replied_unpacked}
 use Rattle.reply.proofs.asked.reply_then_unpack.Goals as goal
@@ -9,6 +9,6 @@ returns g c size l held =
     let plain = g.F.Ring.plain in
     let p = g.F.Packable in
     let said = c.in_ok-reply.ensures in
-    c.unpack.ensures
-    ∙ replied_unpacked o plain p.kind p.width p.bits g.met.F.Packable.admitted c.args.roster.now.cells.now c.args.question c.args.k _ c.reply.new.out (omega arith) said.output size l held
-    ∙ asked_so c.args.question tt (fields_for o plain p.kind p.bits l c.args.question c.args.k) said.refusal
+    ap Ok (c.unpack.ensures
+    ∙ replied_unpacked o plain p.kind p.width p.bits g.met.F.Packable.admitted c.args.roster.now.cells.now c.args.question c.args.k _ c.reply.new.out (omega arith) said.output size l held)
+    ∙ asked_so c.args.question tt (Ok (fields_for o plain p.kind p.bits l c.args.question c.args.k)) said.refusal
