@@ -66,7 +66,7 @@ pub trait Packable: Ring {
     // The number that a figure is packed as.
     ghost bits: { Self → ℕ };
 
-    /// The two constants once more: under a bound a clause cannot speak of a constant, and can of a function's result.
+    /// The two constants once more, as functions: contracts and generic code speak of their results.
     fn reply_kind() -> u8
         ensures { result ≡ kind };
 

@@ -4,7 +4,7 @@ ghost use Rattle.std.specs.Prelude.{refl};
 ghost use Rattle.figures.specs.Residues;
 ghost use Rattle.figures.specs.Modular.{modular_laws};
 ghost use Rattle.figures.specs.Same.{same_residue};
-ghost use Rattle.std.proofs.Common.{mod-eq_of_lt, rules, arith};
+ghost use Rattle.std.proofs.Common.{mod-eq_of_lt, rules};
 
 use crate::kinds::Residue;
 use crate::{Packable, Ring};
@@ -82,7 +82,7 @@ impl Packable for Residue {
 
     ghost bits = { λ x. x.number };
 
-    ghost admitted = { first_of (Prim.search rules, Prim.grind (arith, Self.row.coded.inj)) };
+    ghost admitted = { Prim.search rules };
 
     fn reply_kind() -> u8 {
         Self::KIND

@@ -1,6 +1,6 @@
 //! Scenarios: 64 truth values side by side. Sum is exclusive-or, product is and.
 ghost use Rattle.figures.specs.ScenarioBits.{scenarios, ops as scenario_ops};
-ghost use Rattle.std.proofs.Common.{◌∙◌, mod-eq_of_lt, rules, arith};
+ghost use Rattle.std.proofs.Common.{◌∙◌, mod-eq_of_lt, rules};
 ghost use Rattle.std.proofs.lemmas.Nat.{and_comm, and_mask, xor_comm};
 ghost use Rattle.std.specs.Int.Bits.{xor_assoc, xor_self, xor_zero_r};
 ghost use Rattle.figures.specs.Bits.{and_assoc, and_xor};
@@ -75,7 +75,7 @@ impl Packable for Scenarios {
 
     ghost bits = { λ x. x.bits };
 
-    ghost admitted = { first_of (Prim.search rules, Prim.grind (arith, Self.row.coded.inj)) };
+    ghost admitted = { Prim.search rules };
 
     fn reply_kind() -> u8 {
         Self::KIND

@@ -4,7 +4,7 @@ ghost use Rattle.std.specs.Prelude.{◌^◌, refl};
 ghost use Rattle.figures.specs.Words;
 ghost use Rattle.figures.specs.Modular.{modular_laws};
 ghost use Rattle.figures.specs.Same.{same_word};
-ghost use Rattle.std.proofs.Common.{mod-eq_of_lt, rules, arith};
+ghost use Rattle.std.proofs.Common.{mod-eq_of_lt, rules};
 
 use crate::kinds::Word;
 use crate::{Packable, Ring};
@@ -76,7 +76,7 @@ impl Packable for Word {
 
     ghost bits = { λ x. x.number };
 
-    ghost admitted = { first_of (Prim.search rules, Prim.grind (arith, Self.row.coded.inj)) };
+    ghost admitted = { Prim.search rules };
 
     fn reply_kind() -> u8 {
         Self::KIND

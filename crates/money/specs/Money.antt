@@ -30,6 +30,6 @@ factor_of lives k = total naturals (drop k (money_row lives))
 abbrev pub exact : List ℕ → ℕ → ℕ
 exact lives k = at_least naturals k (map (λ p. record { alive = p; dead = whole - p }) lives)
 
--- X-as-D ≤ F·D^n ≤ X-as-D + (n − 1)·D^n. With no lives n − 1 stops at 0, so that F is X-as-D.
+-- X·D ≤ F·D^n ≤ X·D + (n − 1)·D^n. With no lives n − 1 stops at 0, so that F is X·D.
 abbrev pub Near : ℕ → ℕ → ℕ → Type 0
 Near n x f = (x * whole ≤ f * whole ^ n) × (f * whole ^ n ≤ x * whole + (n - 1) * whole ^ n)
