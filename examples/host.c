@@ -1,8 +1,8 @@
 /* The library called from C: a money row, a factor and an exchangeable row. In the repository's root:
  *
- *     (cd crates/hosts && rt lib)
- *     gcc -std=c11 -O2 -Iinclude examples/host.c crates/hosts/out/libhosts.a -o crates/hosts/out/host
- *     crates/hosts/out/host
+ *     bin/libhosts
+ *     gcc -std=c11 -O2 -Iinclude examples/host.c target/staticlib/libhosts.a -o target/host
+ *     target/host
  */
 #include <inttypes.h>
 #include <stdio.h>

@@ -1,7 +1,7 @@
 /* Survivorship for C and C++: the money row, the factor and the exchangeable row.
  *
- * Build the library with `rt lib` in crates/hosts and link crates/hosts/out/libhosts.a. It asks the C library for
- * nothing but memcpy and memset. It is built for x86-64 Linux.
+ * Build the library with `bin/libhosts` and link target/staticlib/libhosts.a. It asks the C library for nothing
+ * but memcpy and memset. It is built for x86-64 Linux.
  *
  * Memory. The caller owns every table, before and after a call. Nothing is allocated, and no pointer is kept after
  * the return. A table is a pointer and then the number of its entries, not of its bytes. The pointer is aligned for

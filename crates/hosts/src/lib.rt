@@ -1,4 +1,4 @@
-//! The money calls and the exchangeable row for C: a slice is a pointer and then a length.
+//! The money calls and the exchangeable row as C wants them: one struct says what came of a call. crates/hosts_c exports them.
 #![tactic(auto)]
 
 ghost use Rattle.std.specs.Prelude.{◌≡◌, length, replicate, Err};
@@ -86,8 +86,7 @@ impl Outcome {
 }
 
 /// The money row of the lives, written into `row`.
-#[unsafe(no_mangle)]
-pub extern "C" fn survivorship_money_row(lives: &[u32], row: &mut [u64]) -> Outcome
+pub fn survivorship_money_row(lives: &[u32], row: &mut [u64]) -> Outcome
     ensures { Made of_money_row
         (λ _. RowAnswered lives.now row.old row.new)
         (λ e. MoneyRefused lives.now 0 (length row.old) e × (row.new ≡ row.old)) result }
@@ -96,8 +95,7 @@ pub extern "C" fn survivorship_money_row(lives: &[u32], row: &mut [u64]) -> Outc
 }
 
 /// The factor of the lives for `k`, worked in `work`, which is all zeros afterwards.
-#[unsafe(no_mangle)]
-pub extern "C" fn survivorship_factor(lives: &[u32], k: u32, work: &mut [u64]) -> Outcome
+pub fn survivorship_factor(lives: &[u32], k: u32, work: &mut [u64]) -> Outcome
     ensures answer { Made of_factor
         (FactorAnswered lives.now k (length work.old))
         (MoneyRefused lives.now k (length work.old)) result }
@@ -107,8 +105,7 @@ pub extern "C" fn survivorship_factor(lives: &[u32], k: u32, work: &mut [u64]) -
 }
 
 /// The row for m of a table of exchangeable events, written into `out`.
-#[unsafe(no_mangle)]
-pub extern "C" fn survivorship_exchangeable_row(table: &[u32], m: u32, out: &mut [u64]) -> Outcome
+pub fn survivorship_exchangeable_row(table: &[u32], m: u32, out: &mut [u64]) -> Outcome
     ensures { Made of_table_row
         (λ _. Answered table.now m out.old out.new)
         (λ e. RowRefused table.now m out.old e × (out.new ≡ out.old)) result }
