@@ -1,5 +1,5 @@
 -- What a call is answered, and what it leaves in the output. Assumes nothing.
-use Rattle.std.specs.Prelude.{◌≡◌, ℕ, ◌+◌, ◌^◌, ◌<◌, ◌≤◌, List, map, length, take, drop, pos, ◌≤ℤ◌, ◌<ℤ◌, slice_index}
+use Rattle.std.specs.Prelude.{◌≡◌, ℕ, ◌+◌, ◌^◌, ◌<◌, ◌≤◌, List, map, length, take, drop, pos, ◌≤ℤ◌, ◌<ℤ◌, slice_index, Option, Some, None}
 use Rattle.exchangeable.specs.Events.{top, value, row, HasEvents}
 use Rattle.exchangeable.specs.declared.Refusal.{Refusal}
 use Rattle.exchangeable.specs.declared.Refusal.TheVariants.{TableLength, Coefficient, RowAboveTable, ShortOutput, Impossible}
@@ -11,6 +11,14 @@ number (Coefficient place) = 12
 number RowAboveTable = 13
 number ShortOutput = 14
 number (Impossible place) = 15
+
+-- The place that a refusal names.
+abbrev pub place : Refusal → Option ℕ
+place TableLength = None
+place (Coefficient k) = Some k
+place RowAboveTable = None
+place ShortOutput = None
+place (Impossible k) = Some k
 
 -- A table has 1 to 33 coefficients.
 abbrev pub FitLength : List ℕ → Type 0

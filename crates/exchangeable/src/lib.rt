@@ -3,7 +3,7 @@
 
 ghost use Rattle.std.specs.Prelude.{◌≡◌, ℕ, ◌+◌, ◌-◌, ◌^◌, ◌<◌, ◌≤◌, List, length, drop, pos, ◌*ℤ◌, ◌≤ℤ◌, ◌<ℤ◌, MatchOption, MatchResult, slice_index, slice_index_or};
 ghost use Rattle.algebra.specs.Binomial.{choose};
-ghost use Rattle.exchangeable.specs.Answer.{Admitted, Answered, Refused, number};
+ghost use Rattle.exchangeable.specs.Answer.{Admitted, Answered, Refused, number, place};
 ghost use Rattle.exchangeable.specs.Events.{value};
 
 /// The most coefficients that a table has.
@@ -38,6 +38,16 @@ impl Refusal {
             Refusal::RowAboveTable => 13,
             Refusal::ShortOutput => 14,
             Refusal::Impossible { place: _ } => 15,
+        }
+    }
+
+    /// The place that the refusal names.
+    pub fn place(self) -> Option<usize>
+        ensures { result ≡ place self }
+    {
+        match self {
+            Refusal::Coefficient { place } | Refusal::Impossible { place } => Some(place),
+            Refusal::TableLength | Refusal::RowAboveTable | Refusal::ShortOutput => None,
         }
     }
 }

@@ -1,5 +1,5 @@
 -- What the calls are answered, and what they leave in the table. Assumes nothing.
-use Rattle.std.specs.Prelude.{◌≡◌, ℕ, ◌+◌, ◌<◌, ◌≤◌, List, ◌++◌, length, take, drop, slice_index}
+use Rattle.std.specs.Prelude.{◌≡◌, ℕ, ◌+◌, ◌<◌, ◌≤◌, List, ◌++◌, length, take, drop, slice_index, Option, Some, None}
 use Rattle.algebra.specs.Patterns.{naturals, total}
 use Rattle.money.specs.Money.{whole, money_row, factor_of, exact, Near}
 use Rattle.money.specs.declared.Refusal.{Refusal}
@@ -11,6 +11,13 @@ number TooManyLives = 8
 number (LifeAboveOne place) = 9
 number CountAboveLimit = 5
 number ShortTable = 10
+
+-- The place that a refusal names.
+abbrev pub place : Refusal → Option ℕ
+place TooManyLives = None
+place (LifeAboveOne i) = Some i
+place CountAboveLimit = None
+place ShortTable = None
 
 -- At most 64 lives, each at most D: neither 8 nor 9 applies.
 abbrev pub Admitted : List ℕ → Type 0

@@ -3,7 +3,7 @@
 
 ghost use Rattle.std.specs.Prelude.{◌≡◌, ℕ, ◌+◌, ◌≤◌, length, take, drop, replicate, MatchResult, slice_index};
 ghost use Rattle.algebra.specs.Patterns.{naturals, total};
-ghost use Rattle.money.specs.Answer.{Admitted, FactorAnswered, Refused, RowAnswered, number};
+ghost use Rattle.money.specs.Answer.{Admitted, FactorAnswered, Refused, RowAnswered, number, place};
 ghost use Rattle.money.specs.Money.{pass, whole};
 
 /// D, which stands for a chance of one.
@@ -35,6 +35,16 @@ impl Refusal {
             Refusal::LifeAboveOne { place: _ } => 9,
             Refusal::CountAboveLimit => 5,
             Refusal::ShortTable => 10,
+        }
+    }
+
+    /// The place that the refusal names.
+    pub fn place(self) -> Option<usize>
+        ensures { result ≡ place self }
+    {
+        match self {
+            Refusal::LifeAboveOne { place } => Some(place),
+            Refusal::TooManyLives | Refusal::CountAboveLimit | Refusal::ShortTable => None,
         }
     }
 }
