@@ -77,21 +77,13 @@ impl<R: Packable> Packable for Dual<R> {
 
     const WIDTH: u32 = R::WIDTH;
 
-    ghost kind = { R.Packable.kind };
+    ghost KIND = { R.Packable.KIND };
 
-    ghost width = { R.Packable.width };
+    ghost WIDTH = { R.Packable.WIDTH };
 
     ghost bits = { λ x. R.Packable.bits x.value };
 
     ghost admitted = { λ x. R.Packable.admitted x.value };
-
-    fn reply_kind() -> u8 {
-        R::reply_kind()
-    }
-
-    fn reply_width() -> u32 {
-        R::reply_width()
-    }
 
     fn reply_bits(self) -> u64 {
         self.value.reply_bits()

@@ -59,24 +59,17 @@ pub trait Packable: Ring {
 
     const WIDTH: u32;
 
-    ghost kind: { ℕ };
+    ghost KIND: { ℕ };
 
-    ghost width: { ℕ };
+    ghost WIDTH: { ℕ };
 
     // The number that a figure is packed as.
     ghost bits: { Self → ℕ };
 
-    /// The two constants once more, as functions: contracts and generic code speak of their results.
-    fn reply_kind() -> u8
-        ensures { result ≡ kind };
-
-    fn reply_width() -> u32
-        ensures { result ≡ width };
-
     fn reply_bits(self) -> u64
         ensures { result ≡ bits self };
 
-    ghost admitted: { (x : Self) → Admitted kind width (bits x) };
+    ghost admitted: { (x : Self) → Admitted KIND WIDTH (bits x) };
 }
 
 #[cfg(test)]

@@ -76,21 +76,13 @@ impl Packable for Residue {
 
     const WIDTH: u32 = 31;
 
-    ghost kind = { 2 };
+    ghost KIND = { 2 };
 
-    ghost width = { 31 };
+    ghost WIDTH = { 31 };
 
     ghost bits = { λ x. x.number };
 
     ghost admitted = { Prim.search rules };
-
-    fn reply_kind() -> u8 {
-        Self::KIND
-    }
-
-    fn reply_width() -> u32 {
-        Self::WIDTH
-    }
 
     fn reply_bits(self) -> u64 {
         self.to_plain() as u64

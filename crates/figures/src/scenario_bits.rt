@@ -69,21 +69,13 @@ impl Packable for Scenarios {
 
     const WIDTH: u32 = 64;
 
-    ghost kind = { 3 };
+    ghost KIND = { 3 };
 
-    ghost width = { 64 };
+    ghost WIDTH = { 64 };
 
     ghost bits = { λ x. x.bits };
 
     ghost admitted = { Prim.search rules };
-
-    fn reply_kind() -> u8 {
-        Self::KIND
-    }
-
-    fn reply_width() -> u32 {
-        Self::WIDTH
-    }
 
     fn reply_bits(self) -> u64 {
         self.to_plain()

@@ -70,21 +70,13 @@ impl Packable for Word {
 
     const WIDTH: u32 = 64;
 
-    ghost kind = { 1 };
+    ghost KIND = { 1 };
 
-    ghost width = { 64 };
+    ghost WIDTH = { 64 };
 
     ghost bits = { λ x. x.number };
 
     ghost admitted = { Prim.search rules };
-
-    fn reply_kind() -> u8 {
-        Self::KIND
-    }
-
-    fn reply_width() -> u32 {
-        Self::WIDTH
-    }
 
     fn reply_bits(self) -> u64 {
         self.to_plain()

@@ -1,10 +1,5 @@
-use Rattle.std.proofs.Common.{rules}
 use Rattle.std.proofs.lemmas.Nat.{xor_lt}
-use Rattle.figures.specs.Same.{same_scenarios}
 use Rattle.figures.proofs.scenario_bits.ScenariosRing.add.Goals as goal
 
 pub invariant_of-result : goal.invariant_of-result
 invariant_of-result c = record { fits = xor_lt 64 _ _ c.args.self.fits c.args.other.fits }
-
-pub returns : goal.returns
-returns c = same_scenarios _ _ (search rules)
