@@ -1,24 +1,13 @@
 -- Numbers written in bytes, the first the most significant. Assumes nothing.
-use Rattle.std.proofs.Common.{◌≡◌, ℕ, zero, suc, ◌+◌, ◌*◌, ◌/◌, ◌%◌, ◌^◌, ◌<◌, ◌≤◌, List, [], ◌∷◌, length, get_or, take, sym, refl, ap, ◌∙◌, ap₂, add-zero, add_assoc, mod-lt, mod-eq_of_lt, mul_assoc, add-mul, zero-add, mul-one, arith, lit<, length-take, w8, Fits}
-use native.Mathlib.Nat.{pow-le-pow_right, pow-succ', mod-one, one-le-pow}
+use Rattle.std.proofs.Common.{◌≡◌, ℕ, zero, suc, ◌+◌, ◌*◌, ◌/◌, ◌%◌, ◌^◌, ◌<◌, List, [], ◌∷◌, length, get_or, sym, refl, ap, ◌∙◌, ap₂, add-zero, add_assoc, mod-lt, mod-eq_of_lt, mul_assoc, add-mul, zero-add, mul-one, arith, lit<, w8, Fits}
+use native.Mathlib.Nat.{pow-succ', mod-one, one-le-pow}
 use lib.Arith.{mod-mul}
 use Rattle.std.specs.Int.Digits.{number_from_digits, number_from_digits_after, AllBelowBase}
-use Rattle.std.proofs.lemmas.Nat.{one_shl, pow_pos}
-use Rattle.std.proofs.lemmas.Int.Digits.{number_lt}
 use Rattle.std.proofs.ByRecursion.{All-from_get_or}
 
 -- what is read from a slice of bytes fits them
 pub octets : (bytes : List ℕ) → ((i : ℕ) → Fits w8 (get_or bytes i 0)) → AllBelowBase 256 bytes
 octets bytes small = All-from_get_or (λ d. d < 256) bytes 0 (λ i _. omega (arith, small i))
-
--- fewer than 16 bytes and one more fit 128 bits
-pub room : (bytes : List ℕ) (i b : ℕ) → i < length bytes → length bytes ≤ 16 → AllBelowBase 256 (take i bytes) → b < 256
-    → number_from_digits 256 (take i bytes) * 256 + b < 2 ^ 128
-room bytes i b h most under small =
-    let long : length (take i bytes) ≤ 15 = simp length-take (omega arith) in
-    let below = number_lt 256 (take i bytes) under in
-    let bound : 256 ^ length (take i bytes) ≤ 256 ^ 15 = pow-le-pow_right (lit< tt) long in
-    omega arith
 
 -- the k lowest bytes of a number
 abbrev pub bytes_of : ℕ → ℕ → List ℕ
@@ -56,9 +45,3 @@ same_after a b (x ∷ xs) (y ∷ ys) long us vs e =
 
 pub same_bytes : (xs ys : List ℕ) → length xs ≡ length ys → AllBelowBase 256 xs → AllBelowBase 256 ys → number_from_digits 256 xs ≡ number_from_digits 256 ys → xs ≡ ys
 same_bytes xs ys long us vs e = (same_after 0 0 xs ys long us vs e).1
-
--- a number of at most 64 bits, cut to its width in the code's way, is itself
-pub cut_width : (width n : ℕ) → width ≤ 64 → n < 2 ^ width → (0 < 1 * 2 ^ width % 2 ^ 128) × (n % (1 * 2 ^ width % 2 ^ 128) ≡ n)
-cut_width width n room fits =
-    let power : 1 * 2 ^ width % 2 ^ 128 ≡ 2 ^ width = one_shl width 128 (omega arith) in
-    (rw power (pow_pos width), ap (λ m. n % m) power ∙ mod-eq_of_lt fits)

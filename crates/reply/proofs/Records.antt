@@ -108,19 +108,6 @@ and_second : (a b : Bool) → (a && b) ≡ true → b ≡ true
 and_second true b e = e
 and_second false b e = absurd (clash e)
 
--- what acceptance says of the kind
-pub kind_residue : (f : Fields) → f.kind ≡ 2 → acceptable f ≡ true → f.figure < 2147483647
-kind_residue f e ok = kind_said f e (and_first (kindly f) _ ok)
-  where
-    kind_said : (f : Fields) → f.kind ≡ 2 → kindly f ≡ true → f.figure < 2147483647
-    kind_said f e ok = grind (arith, nat_tests)
-
-pub kind_rest : (f : Fields) → (f.kind ≡ 1 → ⊥) → (f.kind ≡ 2 → ⊥) → acceptable f ≡ true → f.kind ≡ 3
-kind_rest f one two ok = kind_left f one two (and_first (kindly f) _ ok)
-  where
-    kind_left : (f : Fields) → (f.kind ≡ 1 → ⊥) → (f.kind ≡ 2 → ⊥) → kindly f ≡ true → f.kind ≡ 3
-    kind_left f one two ok = grind (arith, nat_tests)
-
 pub held_at : (bytes : List ℕ) {f f' : Fields} → f ≡ f' → Holds bytes f → Holds bytes f'
 held_at bytes e h = subst (λ f. Holds bytes f) e h
 

@@ -25,30 +25,17 @@ impl Unwritten {
     }
 }
 
-/// A number of survivors that was asked for: none above 64.
-fn count_asked(k: u32) -> Option<Count>
-    ensures { MatchOption result (64 < k) (λ n. (k ≤ 64) × (n.number ≡ k)) }
-{
-    if k > 64 {
-        return None;
-    }
-    Count::new(k as u8)
-}
-
 /// The reply to a question for a figure, from what the roster answered.
 fn figured<F: Copy>(question: Question, k: u32, res: Result<F, roster::Refusal>) -> Reply<F>
     ensures { (kind n : ℕ) (bits : F → ℕ) (x : F) → MatchResult res (λ y. (k ≤ 64) × (y ≡ x)) (λ _. 64 < k) → replied kind bits n result ≡ counted kind (question_number question) n k (bits x) }
 {
-    let Some(k) = count_asked(k) else {
-        return Reply::Refused { question };
-    };
-    match res {
-        Ok(figure) => Reply::Answered {
+    match (u8::try_from(k).ok().and_then(Count::new), res) {
+        (Some(k), Ok(figure)) => Reply::Answered {
             question,
             k,
             figure,
         },
-        Err(_) => Reply::Refused { question },
+        _ => Reply::Refused { question },
     }
 }
 
@@ -57,7 +44,7 @@ fn answered<F: Packable>(roster: &Roster<'_, F>, question: u32, k: u32) -> Optio
     ensures { MatchOption result
         ((nat_le 1 question && nat_le question 3) ≡ false)
         (λ a. ((nat_le 1 question && nat_le question 3) ≡ true) × ((size : ℕ) (l : Ledger F) → Holds F.Ring.ops F.Ring.plain size l roster.now.cells.now
-        → replied F.Packable.kind F.Packable.bits (length l.lives) a ≡ fields_for F.Ring.ops F.Ring.plain F.Packable.kind F.Packable.bits l question k)) }
+        → replied F.Packable.KIND F.Packable.bits (length l.lives) a ≡ fields_for F.Ring.ops F.Ring.plain F.Packable.KIND F.Packable.bits l question k)) }
 {
     match question {
         1 => Some(figured(Question::Exactly, k, roster.exactly(k))),
@@ -76,7 +63,7 @@ pub fn reply<F: Packable>(
 ) -> Result<(), Unwritten>
     ensures refusal { result ≡ asking (length out.old) question tt }
     ensures output { MatchResult result
-        (λ _. Written F.Ring.ops F.Ring.plain F.Packable.kind F.Packable.bits roster.now.cells.now question k out.old out.new)
+        (λ _. Written F.Ring.ops F.Ring.plain F.Packable.KIND F.Packable.bits roster.now.cells.now question k out.old out.new)
         (λ _. out.new ≡ out.old) }
 {
     if out.len() < 16 {
@@ -100,7 +87,7 @@ pub fn reply_then_unpack<F: Packable>(
     k: u32,
 ) -> Result<Result<Fields, Refusal>, Unwritten>
     ensures { (size : ℕ) (l : Ledger F) → Holds F.Ring.ops F.Ring.plain size l roster.now.cells.now
-        → result ≡ asking 16 question (Ok (fields_for F.Ring.ops F.Ring.plain F.Packable.kind F.Packable.bits l question k)) }
+        → result ≡ asking 16 question (Ok (fields_for F.Ring.ops F.Ring.plain F.Packable.KIND F.Packable.bits l question k)) }
 {
     let mut bytes = [0; 16];
     reply(roster, question, k, &mut bytes)?;

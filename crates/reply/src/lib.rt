@@ -1,7 +1,7 @@
 //! Reply records: 16 bytes that answer a question about a roster.
 #![tactic(auto)]
 
-ghost use Rattle.std.specs.Prelude.{◌≡◌, ℕ, ◌+◌, ◌*◌, ◌^◌, ◌<◌, ◌≤◌, true, length, Ok, MatchOption};
+ghost use Rattle.std.specs.Prelude.{◌≡◌, ◌≢◌, ℕ, ◌+◌, ◌*◌, ◌^◌, ◌<◌, ◌≤◌, true, length, Ok, MatchOption};
 ghost use Rattle.std.specs.Int.Digits.{number_from_digits, AllBelowBase};
 ghost use Rattle.reply.specs.Layout.{part, Holds};
 ghost use Rattle.reply.specs.Rules.{refusal_number, counts, answered, refused, told, kindly, acceptable, checked, unpacked, fields_of, question_number};
@@ -66,14 +66,6 @@ impl Refusal {
     }
 }
 
-impl Question {
-    fn number(self) -> u8
-        ensures { result ≡ question_number self }
-    {
-        self as u8
-    }
-}
-
 impl Count {
     /// None above 64.
     pub fn new(number: u8) -> Option<Count>
@@ -99,7 +91,7 @@ impl Fields {
     fn is_count(&self) -> bool
         ensures { result ≡ counts self.now }
     {
-        self.question == 1 || self.question == 2
+        matches!(self.question, 1 | 2)
     }
 
     fn is_answered(&self) -> bool
@@ -135,26 +127,20 @@ impl Fields {
     }
 }
 
-/// The number that bytes write, the first the most significant.
-fn number_of(bytes: &[u8]) -> u128
-    requires { length bytes.now ≤ 16 }
-    ensures { result ≡ number_from_digits 256 bytes.now }
+/// The number that 16 bytes write, the first the most significant; none for another count of bytes.
+fn number_of(bytes: &[u8]) -> Option<u128>
+    ensures { MatchOption result (length bytes.now ≢ 16) (λ n. (length bytes.now ≡ 16) × (n ≡ number_from_digits 256 bytes.now)) }
 {
-    let mut n: u128 = 0;
-    for b in bytes {
-        n = n * 256 + *b as u128;
-    }
-    n
+    Some(u128::from_be_bytes(bytes.try_into().ok()?))
 }
 
 /// Reads a record: its fields where it is acceptable.
 pub fn unpack(bytes: &[u8]) -> Result<Fields, Refusal>
     ensures { result ≡ unpacked bytes.now }
 {
-    if bytes.len() != 16 {
+    let Some(n) = number_of(bytes) else {
         return Err(Refusal::WrongSize);
-    }
-    let n = number_of(bytes);
+    };
     let fields = Fields {
         kind: part_at(n, 0, 2) as u8,
         question: part_at(n, 2, 3) as u8,
@@ -173,25 +159,25 @@ pub fn unpack(bytes: &[u8]) -> Result<Fields, Refusal>
 fn figure_bits<F: Packable>(figure: F) -> u64
     ensures { result ≡ F.Packable.bits figure }
 {
-    (figure.reply_bits() as u128 % (1 << F::reply_width())) as u64
+    (figure.reply_bits() as u128 % (1 << F::WIDTH)) as u64
 }
 
 impl<F: Packable> Record<F> {
     /// The numbers that go into the fields.
     fn fields(self) -> Fields
-        ensures { result ≡ fields_of F.Packable.kind F.Packable.bits self }
+        ensures { result ≡ fields_of F.Packable.KIND F.Packable.bits self }
     {
         let (question, refusal, k, figure) = match self.reply {
             Reply::Answered {
                 question,
                 k,
                 figure,
-            } => (question.number(), 0, k.number, figure_bits(figure)),
-            Reply::Refused { question } => (question.number(), 5, 127, 0),
+            } => (question as u8, 0, k.number, figure_bits(figure)),
+            Reply::Refused { question } => (question as u8, 5, 127, 0),
             Reply::Lives => (3, 0, 0, 0),
         };
         Fields {
-            kind: F::reply_kind(),
+            kind: F::KIND,
             question,
             refusal,
             k,
@@ -220,7 +206,7 @@ fn placed(f: Fields) -> u128
 
 /// Writes a record, most significant bit first. (That entries are bytes, their type says, and a list of numbers does not.)
 pub fn pack<F: Packable>(reply: Record<F>) -> [u8; 16]
-    ensures holds { Holds result (fields_of F.Packable.kind F.Packable.bits reply) }
+    ensures holds { Holds result (fields_of F.Packable.KIND F.Packable.bits reply) }
     ensures octets { AllBelowBase 256 result }
 {
     placed(reply.fields()).to_be_bytes()
@@ -228,7 +214,7 @@ pub fn pack<F: Packable>(reply: Record<F>) -> [u8; 16]
 
 /// What was packed is read back: every record, over every kind that packs.
 pub fn pack_then_unpack<F: Packable>(reply: Record<F>) -> Result<Fields, Refusal>
-    ensures { result ≡ Ok (fields_of F.Packable.kind F.Packable.bits reply) }
+    ensures { result ≡ Ok (fields_of F.Packable.KIND F.Packable.bits reply) }
 {
     unpack(&pack(reply))
 }

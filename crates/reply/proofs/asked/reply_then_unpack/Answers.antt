@@ -10,5 +10,5 @@ returns g c size l held =
     let p = g.F.Packable in
     let said = c.in_ok-reply.ensures in
     ap Ok (c.unpack.ensures
-    ∙ replied_unpacked o plain p.kind p.width p.bits g.met.F.Packable.admitted c.args.roster.now.cells.now c.args.question c.args.k _ c.reply.new.out (omega arith) said.output size l held)
-    ∙ asked_so c.args.question tt (Ok (fields_for o plain p.kind p.bits l c.args.question c.args.k)) said.refusal
+    ∙ replied_unpacked o plain p.KIND p.WIDTH p.bits g.met.F.Packable.admitted c.args.roster.now.cells.now c.args.question c.args.k _ c.reply.new.out (omega arith) said.output size l held)
+    ∙ asked_so c.args.question tt (Ok (fields_for o plain p.KIND p.bits l c.args.question c.args.k)) said.refusal
