@@ -69,9 +69,7 @@ pub fn reply<F: Packable>(
     if out.len() < 16 {
         return Err(Unwritten::ShortOutput);
     }
-    let Some(reply) = answered(roster, question, k) else {
-        return Err(Unwritten::UnknownQuestion);
-    };
+    let reply = answered(roster, question, k).ok_or(Unwritten::UnknownQuestion)?;
     let lives = Count {
         number: roster.lives() as u8,
     };

@@ -138,9 +138,7 @@ fn number_of(bytes: &[u8]) -> Option<u128>
 pub fn unpack(bytes: &[u8]) -> Result<Fields, Refusal>
     ensures { result ≡ unpacked bytes.now }
 {
-    let Some(n) = number_of(bytes) else {
-        return Err(Refusal::WrongSize);
-    };
+    let n = number_of(bytes).ok_or(Refusal::WrongSize)?;
     let fields = Fields {
         kind: part_at(n, 0, 2) as u8,
         question: part_at(n, 2, 3) as u8,

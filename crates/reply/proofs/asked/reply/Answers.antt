@@ -9,11 +9,12 @@ pub returns-clause-output : goal.returns-clause-output
 returns-clause-output g c =
     let p = g.F.Packable in
     let front = c.copy_from_slice.new.self in
+    let said = rw c.in_ok-reply.ensures.ok_part at c.answered.ensures in
     let long : length front ≡ 16 = ap length c.copy_from_slice.ensures.after ∙ c.pack.ensures.holds.size in
     record {
       answer = λ size l held.
           let f = fields_for g.F.Ring.ops g.F.Ring.plain p.KIND p.bits l c.args.question c.args.k in
-          let same = ap (λ n. replied p.KIND p.bits n c.in-Some.reply) (c.lives.ensures.counted size l held) ∙ c.in-Some.ensures.1 size l held in
+          let same = ap (λ n. replied p.KIND p.bits n c.in_ok-reply.reply) (c.lives.ensures.counted size l held) ∙ said.1 size l held in
           subst (λ xs. Holds xs f) (sym (take_at front _ 16 long ∙ c.copy_from_slice.ensures.after)) (held_at c.pack.result same c.pack.ensures.holds);
       rest = drop_at front _ 16 long;
     }
