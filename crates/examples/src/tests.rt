@@ -1,100 +1,75 @@
 //! Run examples: a published table, and a long week of calls. Functions are small, since a long one takes long to prove.
 use figures::{Dual, Residue, Ring, Scenarios, Word};
 use money::money_row;
-use roster::{Cell, Roster, Slip, close, take_into_use};
+use roster::{Cell, Refusal, Roster, Slip, close, take_into_use};
 use std::process::Abort;
 use std::test::Fail;
 
 /// A call's outcome as a number: 0 where it was granted, else the refusal's.
-fn told<T: Copy>(res: Result<T, roster::Refusal>) -> u32 {
-    match res {
-        Ok(_) => 0,
-        Err(refusal) => refusal.number(),
-    }
-}
-
-/// An answered figure as one number.
-fn figure_of<F: Ring>(res: Result<F, roster::Refusal>) -> Option<u128>
-where
-    F::Plain: Sample,
-{
-    match res {
-        Ok(figure) => Some(figure.to_plain().shown()),
-        Err(_) => None,
-    }
+fn told<T: Drop>(res: Result<T, Refusal>) -> u32 {
+    res.map_or_else(|refusal| refusal.number(), |_| 0)
 }
 
 /// White and Greville (1959), table 1, rounded to billionths: the chances of ten lives, and after each life those that
-/// exactly 0 to 4 are alive; 0 stands where there are fewer lives.
-const LIVES: [u32; 10] = [
-    912455317, 854803098, 255897974, 130455559, 957512953, 941221044, 894658220, 461951641,
-    146549552, 55035309,
-];
-
-const LINES: [[u64; 5]; 10] = [
-    [87544683, 912455317, 0, 0, 0],
-    [12711217, 207319151, 779969632, 0, 0],
-    [9458442, 157519375, 633429534, 199592649, 0],
-    [8224536, 138204003, 571344408, 256189082, 26037971],
-    [349436, 13746980, 156606860, 557954389, 246410641],
-    [20540, 1136930, 22144134, 180197649, 539642173],
-    [2164, 138142, 3349866, 38793773, 218062175],
-    [1164, 75327, 1866205, 22420402, 135248842],
-    [994, 64458, 1603753, 19408194, 118713885],
-    [939, 60965, 1519037, 18428321, 113248565],
+/// exactly 0 to 4 are alive.
+const TABLE: [(u32, &[u64]); 10] = [
+    (912455317, &[87544683, 912455317]),
+    (854803098, &[12711217, 207319151, 779969632]),
+    (255897974, &[9458442, 157519375, 633429534, 199592649]),
+    (
+        130455559,
+        &[8224536, 138204003, 571344408, 256189082, 26037971],
+    ),
+    (
+        957512953,
+        &[349436, 13746980, 156606860, 557954389, 246410641],
+    ),
+    (941221044, &[20540, 1136930, 22144134, 180197649, 539642173]),
+    (894658220, &[2164, 138142, 3349866, 38793773, 218062175]),
+    (461951641, &[1164, 75327, 1866205, 22420402, 135248842]),
+    (146549552, &[994, 64458, 1603753, 19408194, 118713885]),
+    (55035309, &[939, 60965, 1519037, 18428321, 113248565]),
 ];
 
 /// How many entries of the row of these lives agree with the line, within 16 billionths.
-fn agreeing(lives: &[u32], line: [u64; 5]) -> u32 {
-    let mut row = [0; 11];
-    let mut count = 0u32;
-    if money_row(lives, &mut row).is_ok() {
-        for k in 0..5 {
-            if k <= lives.len() && row[k].abs_diff(line[k]) <= 16 {
-                count = count.wrapping_add(1);
-            }
-        }
+fn agreeing(lives: &[u32], line: &[u64]) -> usize {
+    let mut row = [0u64; 11];
+    if money_row(lives, &mut row).is_err() {
+        return 0;
     }
-    count
+    row.iter()
+        .zip(line)
+        .filter(|(entry, listed)| entry.abs_diff(**listed) <= 16)
+        .count()
 }
 
 #[test]
 fn published_table(rt: HostRuntime) {
-    let lives = LIVES;
-    let mut compared = 0u32;
-    for (i, line) in LINES.iter().enumerate() {
+    let lives = TABLE.map(|(life, _)| life);
+    let mut compared = 0usize;
+    for (i, (_, line)) in TABLE.iter().enumerate() {
         assert!(rt; i < 10);
-        let count = agreeing(&lives[0..i + 1], *line);
-        assert_eq!(rt; (i, count), (i, if i < 3 { i as u32 + 2 } else { 5 }));
+        let count = agreeing(&lives[0..i + 1], line);
+        assert_eq!(rt; (i, count), (i, line.len()));
         compared = compared.wrapping_add(count);
     }
     assert_eq!(rt; compared, 44);
 }
 
-/// Plain forms that are made of a random number, and are compared as one.
-trait Sample: Copy {
+/// Plain forms that are made of a random number.
+trait Sample: Copy + PartialEq {
     fn drawn(bits: u64) -> Self;
-
-    fn shown(self) -> u128;
 }
 
 impl Sample for u64 {
     fn drawn(bits: u64) -> u64 {
         bits
     }
-
-    fn shown(self) -> u128 {
-        self as u128
-    }
 }
 
 impl Sample for u32 {
     fn drawn(bits: u64) -> u32 {
         (bits % (1 << 32)) as u32
-    }
-
-    fn shown(self) -> u128 {
-        self as u128
     }
 }
 
@@ -104,10 +79,6 @@ impl<P: Sample> Sample for Dual<P> {
             value: P::drawn(bits),
             rate: P::drawn(bits.rotate_left(32)),
         }
-    }
-
-    fn shown(self) -> u128 {
-        self.value.shown().rotate_left(64) ^ self.rate.shown()
     }
 }
 
@@ -120,7 +91,7 @@ fn draw(state: &mut u64) -> u64 {
 }
 
 /// A question, and what came of it: ten times the call, and the refusal's number.
-fn ask<F: Ring>(group: &Roster<F>, bits: u64, table: &mut [F::Plain]) -> u32 {
+fn ask<F: Ring + PartialEq>(group: &Roster<F>, bits: u64, table: &mut [F::Plain]) -> u32 {
     let k = (bits % 80) as u32;
     let entries = table.len().min((bits % 66) as usize);
     let table = &mut table[0..entries];
@@ -133,7 +104,7 @@ fn ask<F: Ring>(group: &Roster<F>, bits: u64, table: &mut [F::Plain]) -> u32 {
 }
 
 /// A call that alters the group, likewise. A shrinking group has no joins.
-fn alter<F: Ring>(group: &mut Roster<F>, growing: bool, bits: u64, figure: F) -> u32 {
+fn alter<F: Ring + PartialEq>(group: &mut Roster<F>, growing: bool, bits: u64, figure: F) -> u32 {
     let number = (bits % 90) as u32;
     let which = (bits >> 8) % 12;
     if (bits >> 16) % 1024 == 0 {
@@ -175,17 +146,8 @@ const SORTS: [usize; 19] = [
     0, 1, 2, 4, 10, 11, 13, 20, 21, 23, 30, 40, 45, 50, 55, 60, 66, 70, 76,
 ];
 
-/// Whether exactly k and at least k are these.
-fn answered<F: Ring>(group: &Roster<F>, k: u32, exactly: F::Plain, at_least: F) -> bool
-where
-    F::Plain: Sample,
-{
-    let exactly = figure_of(group.exactly(k)) == Some(exactly.shown());
-    exactly & (figure_of(group.at_least(k)) == Some(at_least.to_plain().shown()))
-}
-
 /// The row, where the four questions agree on it.
-fn row_of<F: Ring>(rt: &impl Abort, group: &Roster<F>) -> [F::Plain; 65]
+fn row_of<F: Ring + PartialEq>(rt: &impl Abort, group: &Roster<F>) -> [F::Plain; 65]
 where
     F::Plain: Sample,
 {
@@ -193,21 +155,19 @@ where
     let mut triangle = composed;
     assert_eq!(rt; told(group.composed_row(&mut composed)), 0);
     assert_eq!(rt; told(group.triangle_row(&mut triangle)), 0);
+    assert!(rt; composed == triangle);
     let mut tail = F::zero();
-    let mut count = 0u32;
-    for k in (0..65).rev() {
-        let entry = composed[k];
-        tail = tail.add(F::from_plain(entry));
-        if answered(group, k as u32, entry, tail) & (triangle[k].shown() == entry.shown()) {
-            count = count.wrapping_add(1);
-        }
+    for (k, entry) in composed.iter().enumerate().rev() {
+        let exactly = F::from_plain(*entry);
+        tail = tail.add(exactly);
+        assert!(rt; group.exactly(k as u32) == Ok(exactly));
+        assert!(rt; group.at_least(k as u32) == Ok(tail));
     }
-    assert_eq!(rt; count, 65);
     composed
 }
 
 /// One call with the next numbers: a question, or one that alters the group.
-fn step<F: Ring>(
+fn step<F: Ring + PartialEq>(
     group: &mut Roster<F>,
     growing: bool,
     state: &mut u64,
@@ -226,7 +186,7 @@ where
 }
 
 /// The calls of a week: the group grows for 800, shrinks for 800, and ends large. The questions agree now and then.
-fn live<F: Ring>(
+fn live<F: Ring + PartialEq>(
     rt: &impl Abort,
     group: &mut Roster<F>,
     sizes: &mut [u32],
@@ -250,7 +210,7 @@ where
 }
 
 /// A group after its week: its lives are in the cells then.
-fn lived<F: Ring>(
+fn lived<F: Ring + PartialEq>(
     rt: &impl Abort,
     slip: &Slip,
     cells: &mut [Cell<F::Plain>],
@@ -268,7 +228,7 @@ where
 }
 
 /// The same lives in a roster anew, in their order. The other cells have the number 0, which is refused.
-fn joined<F: Ring>(
+fn joined<F: Ring + PartialEq>(
     rt: &impl Abort,
     slip: &Slip,
     anew: &mut [Cell<F::Plain>],
@@ -285,32 +245,8 @@ where
     row_of(rt, &group)
 }
 
-/// How many cells agree in every field.
-fn same_cells<P: Sample>(kept: &[Cell<P>], built: &[Cell<P>]) -> u32 {
-    let mut count = 0u32;
-    for i in 0..kept.len().min(built.len()) {
-        let figures = kept[i].figure.shown() == built[i].figure.shown();
-        let sums = kept[i].sum.shown() == built[i].sum.shown();
-        if figures & sums & (kept[i].number == built[i].number) {
-            count = count.wrapping_add(1);
-        }
-    }
-    count
-}
-
-/// How many entries agree.
-fn same_entries<P: Sample>(kept: [P; 65], built: [P; 65]) -> u32 {
-    let mut count = 0u32;
-    for k in 0..65 {
-        if kept[k].shown() == built[k].shown() {
-            count = count.wrapping_add(1);
-        }
-    }
-    count
-}
-
 /// After a week the kept sums are those that joining the same lives anew gives, and so is the row.
-fn rebuild<F: Ring>(
+fn rebuild<F: Ring + PartialEq>(
     rt: &impl Abort,
     slip: &Slip,
     cells: &mut [Cell<F::Plain>],
@@ -322,13 +258,13 @@ where
 {
     let kept = lived(rt, slip, cells, whole);
     let built = joined(rt, slip, anew, whole, cells);
-    assert_eq!(rt; same_entries(kept, built), 65);
-    assert_eq!(rt; same_cells(cells, anew), 65);
+    assert!(rt; kept == built);
+    assert!(rt; &*cells == &*anew);
     Ok(kept)
 }
 
 /// The row after a week. The cells are lent, since here it is not known how large they are.
-fn week<F: Ring>(
+fn week<F: Ring + PartialEq>(
     rt: &impl Abort,
     whole: F::Plain,
     cells: &mut [Cell<F::Plain>],

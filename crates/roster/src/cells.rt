@@ -1,7 +1,7 @@
 //! The cells that a roster lies in.
 
 /// A life's figure, a kept sum and a life's number; figures in their plain form.
-#[derive(Clone, Copy)]
+#[derive(Clone, Copy, PartialEq, Eq, Debug)]
 pub struct Cell<P> {
     pub figure: P,
     pub sum: P,
