@@ -41,8 +41,8 @@ fn alternating<F: Ring>(cells: &[Cell<F::Plain>], j: usize, k: usize, m: usize) 
     let whole = F::from_plain(cells[0].figure);
     let ways = coefficients(j, m);
     let mut sum = F::zero();
-    for t in 0..m + 1 {
-        let kept = F::from_plain(cells[k + t].sum);
+    for (t, cell) in cells[k..=k + m].iter().enumerate() {
+        let kept = F::from_plain(cell.sum);
         sum = sum.mul(whole).add(signed(t, multiple(ways[t], kept)));
     }
     sum
