@@ -5,6 +5,7 @@ ghost use Rattle.algebra.specs.Patterns.{Life};
 ghost use Rattle.algebra.specs.Ring.{semi};
 ghost use Rattle.algebra.specs.Rows.{row};
 ghost use Rattle.algebra.specs.Sums.{elementary, power};
+ghost use Rattle.algebra.proofs.Composition.{compose};
 ghost use Rattle.algebra.proofs.Triangle.{triangle};
 ghost use Rattle.roster.specs.Cells.{Holds, Met};
 ghost use Rattle.roster.specs.Ledger.{Ledger, Composed, Triangle, figures};
@@ -15,19 +16,17 @@ use crate::counting::count;
 use crate::refusals::Refusal;
 use figures::Ring;
 
-/// One life more in a row that ends at place `last`, in place and from the highest place down:
-/// entry r becomes alive · entry(r − 1) + dead · entry(r). What stands past the row's end is not read.
-fn compose<F: Ring>(table: &mut [F::Plain], last: usize, alive: F, dead: F)
-    requires { last + 1 < length table.old }
-    ensures { (ls : List (Life F)) (old : F.Plain) (rest : List F.Plain) → length ls ≡ last → table.old ≡ map F.Ring.plain (row (semi F.Ring.ops) (last + 1) ls) ++ (old ∷ rest) → table.new ≡ map F.Ring.plain (row (semi F.Ring.ops) (last + 2) (ls ++ (record { alive = alive; dead = dead } ∷ []))) ++ rest }
+/// One life more in a row whose last entry is new and zero, in place: each entry becomes
+/// alive · the old one below it + dead · itself.
+fn compose<F: Ring>(row: &mut [F::Plain], alive: F, dead: F)
+    ensures { row.new ≡ map F.Ring.plain (compose (semi F.Ring.ops) (record { alive = alive; dead = dead }) F.Ring.ops.zero (map F.Ring.figure row.old)) }
 {
-    table[last + 1] = alive.mul(F::from_plain(table[last])).to_plain();
-    for r in (0..last).rev() {
-        let below = F::from_plain(table[r]);
-        let here = F::from_plain(table[r + 1]);
-        table[r + 1] = alive.mul(below).add(dead.mul(here)).to_plain();
+    let mut below = F::zero();
+    for entry in row.iter_mut() {
+        let here = F::from_plain(*entry);
+        *entry = alive.mul(below).add(dead.mul(here)).to_plain();
+        below = here;
     }
-    table[0] = dead.mul(F::from_plain(table[0])).to_plain();
 }
 
 /// Where the triangle starts: B(r) · d^(n−r) at each place r, B the kept sums and d the whole.
@@ -66,10 +65,14 @@ pub(crate) fn composed_row_of<F: Ring>(
         return Err(Refusal::ShortTable);
     }
     table[0] = F::one().to_plain();
-    for i in 0..n {
-        let whole = F::from_plain(cells[0].figure);
-        let alive = F::from_plain(cells[i + 1].figure);
-        compose(table, i, alive, whole.add(alive.neg()));
+    let Some((first, lives)) = cells.split_first() else {
+        return Ok(());
+    };
+    let whole = F::from_plain(first.figure);
+    for (i, life) in lives[..n].iter().enumerate() {
+        let alive = F::from_plain(life.figure);
+        table[i + 1] = F::zero().to_plain();
+        compose(&mut table[..=i + 1], alive, whole.add(alive.neg()));
     }
     Ok(())
 }

@@ -9,12 +9,10 @@ use figures::Ring;
 /// the cells hold what the ledger then says.
 pub fn chains_follow_the_ledger<F: Ring>()
     ensures { ChainsFollow F.Ring.ops F.Ring.plain }
-{
-}
+{}
 
 /// Waring's two sums, over figures of any kind: exactly k and at least k are alternating sums of the kept sums.
 pub fn waring_sums_hold<F: Ring>()
     ensures exactly { (d : F) (ps : List F) (k : ℕ) → k ≤ length ps → WaringExactly F.Ring.ops d ps k }
     ensures at_least { (d : F) (ps : List F) (k : ℕ) → 1 ≤ k → k ≤ length ps → WaringAtLeast F.Ring.ops d ps k }
-{
-}
+{}
