@@ -1,8 +1,6 @@
 -- The composed row: one pass, and one life after the other. Assumes nothing.
-use Rattle.std.proofs.Common.{◌≡◌, ℕ, suc, ◌+◌, ◌<◌, ◌≤◌, List, [], ◌∷◌, ◌++◌, map, length, get_or, take, drop, set, sym, refl, ap, ◌∙◌, ap₂, append_assoc, add-one, arith}
-use Rattle.std.specs.List.{range_with_len}
-use Rattle.std.proofs.lemmas.List.FromFn.{length-map-range_with_len}
-use Rattle.std.proofs.lemmas.List.{length-map, length-take-le, map_more, drop_more, take_more_set, drop-set-lt, take_at, drop_at, take_all, nil_from_length}
+use Rattle.std.proofs.Common.{◌≡◌, ℕ, ◌+◌, ◌<◌, ◌≤◌, List, [], ◌∷◌, ◌++◌, map, length, get_or, take, drop, set, sym, refl, ap, ◌∙◌, ap₂, add-one, arith}
+use Rattle.std.proofs.lemmas.List.{length-map, length-take-le, map_more, drop_more, take_at, drop_at, take_all, nil_from_length}
 use Rattle.algebra.specs.Ring.{Semi, Ops, Laws, semi}
 use Rattle.algebra.specs.Patterns.{Life, exactly}
 use Rattle.algebra.specs.Rows.{row}
@@ -10,7 +8,7 @@ use Rattle.algebra.specs.Sums.{against}
 use Rattle.algebra.proofs.Semiring.{SemiLaws, laws_semi}
 use Rattle.algebra.proofs.Patterns.{exactly_zero_nil, exactly_beyond}
 use Rattle.algebra.proofs.Composition.{compose, compose_row}
-use Rattle.roster.proofs.RowsTable.{grow_row}
+use Rattle.roster.proofs.RowsTable.{figures_back, length_row, grow_row}
 
 -- The pass over entries in their plain form; `below` is the old entry before them.
 abbrev pub composed : {F P : Type 0} → Semi F → (F → P) → (P → F) → Life F → F → List P → List P
@@ -23,10 +21,6 @@ module _ {F P : Type 0} {s : Semi F} (L : SemiLaws s) (plain : F → P) where
   row_first (x ∷ xs) one w h e f = ap (λ y. y ∷ xs) (f ∙ ap plain (e ∙ sym (exactly_zero_nil L)))
 
   module _ (figure : P → F) (back : (x : F) → figure (plain x) ≡ x) where
-    figures_back : (xs : List F) → map figure (map plain xs) ≡ xs
-    figures_back [] = refl
-    figures_back (x ∷ xs) = ap₂ ◌∷◌ (back x) (figures_back xs)
-
     -- A life joins the row at the front of a table, and takes the entry past the row's end.
     pub compose_joins : (ls : List (Life F)) (l : Life F) (i : ℕ) (old w : P) (v : F) (rest table after : List P) → length ls ≡ i
         → table ≡ map plain (row s (i + 1) ls) ++ (old ∷ rest) → v ≡ s.zero → w ≡ plain v
@@ -34,13 +28,13 @@ module _ {F P : Type 0} {s : Semi F} (L : SemiLaws s) (plain : F → P) where
         → after ++ drop (i + 1 + 1) (set table (i + 1) w) ≡ map plain (row s (i + 1 + 1) (ls ++ (l ∷ []))) ++ rest
     compose_joins ls l i old w v rest table after len is is-v is-w made =
         let front = map plain (row s (i + 1 + 1) ls) in
-        let long : length front ≡ i + 1 + 1 = length-map (row s (i + 1 + 1) ls) plain ∙ length-map-range_with_len (λ k. exactly s k ls) 0 (i + 1 + 1) in
+        let long : length front ≡ i + 1 + 1 = length_row plain (λ k. exactly s k ls) (i + 1 + 1) in
         let none : exactly s (i + 1) ls ≡ s.zero = exactly_beyond L (i + 1) ls (omega arith) in
         let grown : set table (i + 1) w ≡ front ++ rest = grow_row plain (λ k. exactly s k ls) (i + 1) (i + 1 + 1) old rest table w refl is (is-w ∙ ap plain (is-v ∙ sym none)) in
         let taken : take (i + 1 + 1) (set table (i + 1) w) ≡ front = ap (take (i + 1 + 1)) grown ∙ take_at front rest (i + 1 + 1) long in
         let left : drop (i + 1 + 1) (set table (i + 1) w) ≡ rest = ap (drop (i + 1 + 1)) grown ∙ drop_at front rest (i + 1 + 1) long in
         let pass : composed s plain figure l s.zero front ≡ map plain (row s (i + 1 + 1) (ls ++ (l ∷ []))) =
-        ap (λ xs. map plain (compose s l s.zero xs)) (figures_back (row s (i + 1 + 1) ls)) ∙ ap (map plain) (compose_row L ls l (i + 1 + 1)) in
+        ap (λ xs. map plain (compose s l s.zero xs)) (figures_back plain figure back (row s (i + 1 + 1) ls)) ∙ ap (map plain) (compose_row L ls l (i + 1 + 1)) in
         ap₂ ◌++◌ (made ∙ ap (composed s plain figure l s.zero) taken ∙ pass) left
 
 -- One life more of the list.

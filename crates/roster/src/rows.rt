@@ -6,10 +6,11 @@ ghost use Rattle.algebra.specs.Ring.{semi};
 ghost use Rattle.algebra.specs.Rows.{row};
 ghost use Rattle.algebra.specs.Sums.{elementary, power};
 ghost use Rattle.algebra.proofs.Composition.{compose};
-ghost use Rattle.algebra.proofs.Triangle.{triangle};
+ghost use Rattle.algebra.proofs.Waring.{entry};
 ghost use Rattle.roster.specs.Cells.{Holds, Met};
 ghost use Rattle.roster.specs.Ledger.{Ledger, Composed, Triangle, figures};
 ghost use Rattle.roster.specs.Refusals.{table_or};
+ghost use Rattle.roster.specs.Triangle.{differences};
 
 use crate::cells::Cell;
 use crate::counting::count;
@@ -29,27 +30,29 @@ fn compose<F: Ring>(row: &mut [F::Plain], alive: F, dead: F)
     }
 }
 
-/// Where the triangle starts: B(r) · d^(n−r) at each place r, B the kept sums and d the whole.
-fn weigh<F: Ring>(cells: &[Cell<F::Plain>], table: &mut [F::Plain], n: usize)
-    requires { (n < length cells.now) × (n < length table.old) }
-    ensures { (size : ℕ) (l : Ledger F) → Holds F.Ring.ops F.Ring.plain size l cells.now → table.new ≡ map F.Ring.plain (map (λ q. F.Ring.ops.times (elementary F.Ring.ops q (figures l.lives)) (power F.Ring.ops l.whole (n - q))) (range_with_len 0 (n + 1))) ++ drop (n + 1) table.old }
+/// Where the triangle starts: B(r) · d^(n−r) at each place r of a row for n lives, B the kept sums and d the whole.
+fn weigh<F: Ring>(cells: &[Cell<F::Plain>], row: &mut [F::Plain])
+    requires { (0 < length cells.now) × (length row.old ≤ length cells.now) }
+    ensures { (size : ℕ) (l : Ledger F) → Holds F.Ring.ops F.Ring.plain size l cells.now → length row.old ≡ length l.lives + 1 → row.new ≡ map F.Ring.plain (map (entry F.Ring.ops l.whole (figures l.lives) 0) (range_with_len 0 (length (figures l.lives) + 1))) }
 {
     let whole = F::from_plain(cells[0].figure);
     let mut power = F::one();
-    for r in (0..n + 1).rev() {
-        table[r] = F::from_plain(cells[r].sum).mul(power).to_plain();
+    // By index: a proof knows nothing of what is written through a reversed iterator.
+    for r in (0..row.len()).rev() {
+        row[r] = F::from_plain(cells[r].sum).mul(power).to_plain();
         power = whole.mul(power);
     }
 }
 
-/// One pass of the triangle, down to place `from`: each entry less the one above it.
-fn differences<F: Ring>(table: &mut [F::Plain], from: usize, last: usize)
-    requires { (from ≤ last) × (last < length table.old) }
-    ensures { (d : F) (ps : List F) (rest : List F.Plain) → table.old ≡ map F.Ring.plain (map (triangle F.Ring.ops d ps from last) (range_with_len 0 (last + 1))) ++ rest → table.new ≡ map F.Ring.plain (map (triangle F.Ring.ops d ps from from) (range_with_len 0 (last + 1))) ++ rest }
+/// One pass of the triangle, from the top down: each entry less the new one above it.
+fn differences<F: Ring>(row: &mut [F::Plain])
+    ensures { row.new ≡ map F.Ring.plain (differences F.Ring.ops (map F.Ring.figure row.old)) }
 {
-    for r in (from..last).rev() {
-        let above = F::from_plain(table[r + 1]);
-        table[r] = F::from_plain(table[r]).add(above.neg()).to_plain();
+    let mut above = F::zero();
+    // By index: a proof knows nothing of what is written through a reversed iterator.
+    for r in (0..row.len()).rev() {
+        above = F::from_plain(row[r]).add(above.neg());
+        row[r] = above.to_plain();
     }
 }
 
@@ -93,9 +96,10 @@ pub(crate) fn triangle_row_of<F: Ring>(
         table[0] = F::one().to_plain();
         return Ok(());
     }
-    weigh::<F>(cells, table, last);
+    let row = &mut table[..=last];
+    weigh::<F>(cells, row);
     for i in 0..last {
-        differences::<F>(table, i, last);
+        differences::<F>(&mut row[i..]);
     }
     Ok(())
 }

@@ -1,4 +1,4 @@
-use Rattle.std.proofs.Common.{◌≡◌, ◌+◌, length, drop, refl, ◌∙◌, arith, length-append, length-drop}
+use Rattle.std.proofs.Common.{◌+◌, drop, refl, ◌∙◌, arith, length-append, length-drop}
 use Rattle.std.proofs.lemmas.List.{get_or_append_left, length-take-le}
 use Rattle.roster.proofs.QuestionsWays.{ways_sum_fits, ways_none}
 use Rattle.roster.proofs.coefficients.coefficients.Goals as goal

@@ -1,5 +1,4 @@
 use Rattle.std.proofs.Common.{◌≡◌, ◌++◌, take, drop}
-use Rattle.algebra.specs.Patterns.{Life}
 use Rattle.algebra.specs.Ring.{semi}
 use Rattle.roster.proofs.RowsComposed.{composed}
 use Rattle.roster.proofs.rows.compose.Given as goal
