@@ -57,11 +57,6 @@ module _ {F P : Type 0} (o : Ops F) (plain : F → P) (d : F) (ps : List F) wher
         written = rw more (drop-set row r w within ∙ ap₂ ◌∷◌ (is-w ∙ ap plain here) above);
       }
 
-  pub weighing_all : (r : ℕ) (p : F) (row : List P) → r ≡ 0 → Weighing r p row → row ≡ map plain (map (entry o d ps 0) (range_with_len 0 (length ps + 1)))
-  weighing_all r p row e done =
-      let all : length ps + 1 - 0 ≡ length ps + 1 = omega arith in
-      subst (λ k. drop k row ≡ map plain (map (entry o d ps 0) (range_with_len k (length ps + 1 - k)))) e done.written ∙ ap (λ k. map plain (map (entry o d ps 0) (range_with_len 0 k))) all
-
 -- The passes over a row: after i of them the first i places are done.
 module _ {F P : Type 0} {o : Ops F} (L : Laws o) (plain : F → P) (d : F) (ps : List F) where
   abbrev pub passes : ℕ → List P

@@ -1,5 +1,4 @@
-use Rattle.std.proofs.Common.{◌≡◌, ◌+◌, get_or, ap, ◌∙◌, arith}
-use Rattle.algebra.proofs.Waring.{horner, summand}
+use Rattle.std.proofs.Common.{◌+◌, get_or, ap, ◌∙◌, arith}
 use Rattle.roster.specs.Ledger.{figures}
 use Rattle.roster.proofs.QuestionsRead.{read_figure, read_sum, length_part, get_or_part}
 use Rattle.roster.proofs.QuestionsSums.{alternating_more}
@@ -24,8 +23,3 @@ loop-t-preserved g c size led held =
     c.signed.ensures
     c.mul.ensures
     c.add-sum.ensures
-
-pub returns : goal.returns
-returns g c size led held =
-    let all : c.loop-t.t ≡ c.args.m + 1 = omega (arith, length_part c.args.cells.now c.args.k c.args.m c.requires.1.1) in
-    c.loop-t.invariant size led held ∙ ap (horner g.F.Ring.ops led.whole (summand g.F.Ring.ops (figures led.lives) c.args.j c.args.k)) all

@@ -2,7 +2,7 @@ use Rattle.std.proofs.Common.{◌-◌, arith}
 use Rattle.std.proofs.lemmas.List.{length-map}
 use Rattle.roster.specs.Ledger.{figures}
 use Rattle.roster.proofs.QuestionsRead.{read_figure, read_sum}
-use Rattle.roster.proofs.RowsTriangle.{weighing_more, weighing_all}
+use Rattle.roster.proofs.RowsTriangle.{weighing_more}
 use Rattle.roster.proofs.rows.weigh.Goals as goal
 
 pub loop-r-preserved : goal.loop-r-preserved
@@ -16,7 +16,3 @@ loop-r-preserved g c size led held lives =
     (read_figure figure back held 0 c.index-cells-0.result c.from_plain-whole.result c.requires.0 c.from_plain-whole.ensures)
     (read_sum figure back held r c.index-cells-r.result c.from_plain.result (omega arith) c.from_plain.ensures)
     c.mul.ensures c.to_plain.ensures c.mul-power.ensures
-
-pub returns : goal.returns
-returns g c size led held lives =
-    weighing_all g.F.Ring.ops g.F.Ring.plain led.whole (figures led.lives) c.loop-r.r c.loop-r.power c.loop-r.row (omega arith) (c.loop-r.invariant size led held lives)
