@@ -65,6 +65,7 @@ fn tail<F: Ring>(cells: &[Cell<F::Plain>], j: usize, k: usize) -> F
     alternating(cells, j, k, n - k)
 }
 
+// Two functions, since each promises the answer to another of the ledger's calls.
 /// Exactly k alive.
 pub(crate) fn exactly_of<F: Ring>(cells: &[Cell<F::Plain>], k: u32) -> Result<F, Refusal>
     ensures { Met F.Ring.ops F.Ring.plain (Exactly k) cells.now (figure_or result) cells.now }

@@ -68,6 +68,7 @@ pub(crate) fn composed_row_of<F: Ring>(
         return Err(Refusal::ShortTable);
     }
     table[0] = F::one().to_plain();
+    // With no cells there is no life.
     let Some((first, lives)) = cells.split_first() else {
         return Ok(());
     };
