@@ -1,10 +1,7 @@
 //! Rows: exactly 0 to exactly n alive, at the front of a table of figures in their plain form.
-ghost use Rattle.std.specs.Prelude.{◌≡◌, ℕ, ◌+◌, ◌-◌, ◌<◌, ◌≤◌, List, [], ◌∷◌, ◌++◌, map, length, drop};
+ghost use Rattle.std.specs.Prelude.{◌≡◌, ℕ, ◌+◌, ◌<◌, ◌≤◌, map, length};
 ghost use Rattle.std.specs.List.{range_with_len};
-ghost use Rattle.algebra.specs.Patterns.{Life};
 ghost use Rattle.algebra.specs.Ring.{semi};
-ghost use Rattle.algebra.specs.Rows.{row};
-ghost use Rattle.algebra.specs.Sums.{elementary, power};
 ghost use Rattle.algebra.proofs.Composition.{compose};
 ghost use Rattle.algebra.proofs.Waring.{entry};
 ghost use Rattle.roster.specs.Cells.{Holds, Met};
