@@ -1,5 +1,5 @@
 -- Binomial coefficients as the summands of an alternating sum need them, and that they fit 64 bits. Assumes nothing.
-use Rattle.std.proofs.Common.{◌≡◌, ℕ, zero, suc, ◌+◌, ◌*◌, ◌/◌, ◌^◌, ◌<◌, ◌≤◌, sym, refl, ◌∙◌, subst, le_trans, not-suc-le-zero, add-suc, suc-add, pow-suc, zero-add, add-one, arith, lit<, lit≤}
+use Rattle.std.proofs.Common.{◌≡◌, ℕ, zero, suc, ◌+◌, ◌*◌, ◌/◌, ◌^◌, ◌<◌, ◌≤◌, sym, refl, ◌∙◌, subst, le_trans, not-suc-le-zero, add-suc, suc-add, pow-suc, zero-add, arith, lit<, lit≤}
 use native.Mathlib.Nat.{pow-le-pow_right, div-eq_of_eq-mul_right}
 use Rattle.algebra.specs.Binomial.{choose}
 
@@ -75,7 +75,3 @@ ways_fits zero (suc t) h = lit≤ tt
 ways_fits (suc k) (suc t) h =
     let below : k + suc t ≤ 64 = omega arith in
     rw (ways_choose k (suc t)) (choose_fits (k + suc t) (suc t) below)
-
--- For an index t + 1.
-pub ways_more : (j t : ℕ) → ways (j + 1) (t + 1) ≡ ways j (t + 1) + ways (j + 1) t
-ways_more j t = rw (add-one j, add-one t)

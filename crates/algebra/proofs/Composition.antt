@@ -1,16 +1,16 @@
 -- The row of exactly k alive, when one life more joins at the end. Assumes nothing.
-use Rattle.std.proofs.Common.{◌≡◌, ℕ, zero, suc, ◌+◌, ◌<◌, ◌≤◌, cond, ltb, ◌≢◌, ◌⊎◌, List, [], ◌∷◌, ◌++◌, map, length, get_or, set, replicate, sym, refl, ap, ◌∙◌, subst, ap₂, inl, inr, append-nil, zero-add, add-one, arith}
+use Rattle.std.proofs.Common.{◌≡◌, ℕ, zero, suc, ◌+◌, ◌<◌, ◌≤◌, ◌⊎◌, List, [], ◌∷◌, ◌++◌, map, length, get_or, replicate, sym, refl, ap, ◌∙◌, subst, ap₂, inl, inr, append-nil, zero-add, add-one, arith}
 use lib.ListN.{get_or-eq_default}
 use Rattle.std.specs.List.{range_with_len}
 use Rattle.std.proofs.lemmas.List.FromFn.{length-map-range_with_len, get_or-map-range_with_len}
-use Rattle.std.proofs.lemmas.Bool.{cases_lt, lt-ltb, le-ltb}
+use Rattle.std.proofs.lemmas.Bool.{cases_lt}
 use Rattle.algebra.specs.Ring.{Semi}
 use Rattle.algebra.specs.Patterns.{Life, exactly}
 use Rattle.algebra.specs.Rows.{row}
 use Rattle.algebra.proofs.Semiring.{SemiLaws}
 use Rattle.algebra.proofs.Solver.{semiring, made}
 use Rattle.algebra.proofs.Patterns.{exactly_zero_nil, exactly_zero_at, exactly_suc_at, exactly_beyond}
-use Rattle.algebra.proofs.Rows.{map_counting_constant, map_counting_same, set_map_counting}
+use Rattle.algebra.proofs.Rows.{map_counting_constant}
 
 module _ {F : Type 0} {s : Semi F} (L : SemiLaws s) where
   -- One life at the end.
@@ -19,9 +19,6 @@ module _ {F : Type 0} {s : Semi F} (L : SemiLaws s) where
 
   pub exactly_suc_end : (ls : List (Life F)) (l : Life F) (k : ℕ) → exactly s (suc k) (ls ++ (l ∷ [])) ≡ s.plus (s.times l.alive (exactly s k ls)) (s.times l.dead (exactly s (suc k) ls))
   exactly_suc_end ls l k = exactly_suc_at L l ls [] k ∙ ap (λ xs. s.plus (s.times l.alive (exactly s k xs)) (s.times l.dead (exactly s (suc k) xs))) (append-nil ls)
-
-  pub exactly_more_end : (ls : List (Life F)) (l : Life F) (k : ℕ) → exactly s (k + 1) (ls ++ (l ∷ [])) ≡ s.plus (s.times l.alive (exactly s k ls)) (s.times l.dead (exactly s (k + 1) ls))
-  exactly_more_end ls l k = rw add-one (exactly_suc_end ls l k)
 
   -- Reading the row: within its places, and anywhere with zero past the end.
   pub get_or_row : (size : ℕ) (ls : List (Life F)) (k : ℕ) (z : F) → k < size → get_or (row s size ls) k z ≡ exactly s k ls
@@ -53,10 +50,6 @@ abbrev pub compose : {F : Type 0} → Semi F → Life F → F → List F → Lis
 compose s l below [] = []
 compose s l below (x ∷ xs) = s.plus (s.times l.alive below) (s.times l.dead x) ∷ compose s l x xs
 
--- The same from the highest place down, in place: places below r are old, the others new.
-abbrev pub composing : {F : Type 0} → Semi F → List (Life F) → Life F → ℕ → ℕ → F
-composing s ls l r k = cond (ltb k r) (exactly s k ls) (exactly s k (ls ++ (l ∷ [])))
-
 module _ {F : Type 0} {s : Semi F} (L : SemiLaws s) (ls : List (Life F)) (l : Life F) where
   abbrev before : ℕ → F
   before zero = s.zero
@@ -72,29 +65,3 @@ module _ {F : Type 0} {s : Semi F} (L : SemiLaws s) (ls : List (Life F)) (l : Li
 
   pub compose_row : (size : ℕ) → compose s l s.zero (row s size ls) ≡ row s size (ls ++ (l ∷ []))
   compose_row size = compose_counting 0 size
-
-  pub composing_old : (r k : ℕ) → k < r → composing s ls l r k ≡ exactly s k ls
-  composing_old r k h = rw (lt-ltb k r h)
-
-  pub composing_new : (r k : ℕ) → r ≤ k → composing s ls l r k ≡ exactly s k (ls ++ (l ∷ []))
-  composing_new r k h = rw (le-ltb k r h)
-
-  composing_elsewhere : (r k : ℕ) → k ≢ r → composing s ls l (suc r) k ≡ composing s ls l r k
-  composing_elsewhere r k other = at (cases_lt k r)
-    where
-      at : (k < r) ⊎ (r ≤ k) → composing s ls l (suc r) k ≡ composing s ls l r k
-      at (inl h) = composing_old (suc r) k (omega arith) ∙ sym (composing_old r k h)
-      at (inr h) = composing_new (suc r) k (omega arith) ∙ sym (composing_new r k h)
-
-  -- The pass down: its start, its steps, its end.
-  pub composing_none : (size r : ℕ) → size ≤ r → row s size ls ≡ map (composing s ls l r) (range_with_len 0 size)
-  composing_none size r h = map_counting_same _ _ size (λ k b. sym (composing_old r k (omega arith)))
-
-  pub composing_zero : (size : ℕ) (v : F) → v ≡ s.times l.dead (exactly s 0 ls) → set (map (composing s ls l 1) (range_with_len 0 size)) 0 v ≡ map (composing s ls l 0) (range_with_len 0 size)
-  composing_zero size v e = set_map_counting _ _ size 0 v (e ∙ sym (exactly_zero_end L ls l) ∙ sym (composing_new 0 0 (omega arith))) (λ k b other. composing_elsewhere 0 k other)
-
-  pub composing_suc : (size r : ℕ) (v : F) → v ≡ s.plus (s.times l.alive (exactly s r ls)) (s.times l.dead (exactly s (suc r) ls)) → set (map (composing s ls l (suc (suc r))) (range_with_len 0 size)) (suc r) v ≡ map (composing s ls l (suc r)) (range_with_len 0 size)
-  composing_suc size r v e = set_map_counting _ _ size (suc r) v (e ∙ sym (exactly_suc_end L ls l r) ∙ sym (composing_new (suc r) (suc r) (omega arith))) (λ k b other. composing_elsewhere (suc r) k other)
-
-  pub composing_all : (size : ℕ) → map (composing s ls l 0) (range_with_len 0 size) ≡ row s size (ls ++ (l ∷ []))
-  composing_all size = map_counting_same _ _ size (λ k b. composing_new 0 k (omega arith))

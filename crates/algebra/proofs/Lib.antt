@@ -5,6 +5,5 @@ pub mod Elementary
 pub mod Binomial
 pub mod Waring
 pub mod Rows
-pub mod Triangle
 pub mod Composition
 mod Examples

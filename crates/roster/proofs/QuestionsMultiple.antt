@@ -1,16 +1,12 @@
 -- The rounds of doubling and adding. Assumes nothing.
-use Rattle.std.proofs.Common.{◌≡◌, ℕ, ◌/◌, ◌%◌, ◌≤◌, [], ◌∷◌, ap, ◌∙◌, arith}
+use Rattle.std.proofs.Common.{◌≡◌, ℕ, ◌/◌, ◌%◌, [], ◌∷◌, ap, ◌∙◌}
 use Rattle.algebra.specs.Ring.{Ops, Laws}
 use Rattle.algebra.specs.Sums.{multiple}
-use Rattle.algebra.proofs.Semiring.{zero_plus}
 use Rattle.algebra.proofs.Solver.{ring, made}
 use Rattle.algebra.proofs.Elementary.{multiple_half}
 
 module _ {F : Type 0} {o : Ops F} (L : Laws o) where
   -- What is done, and the copies that are left.
-  pub rounds_none : (c : ℕ) (x zero : F) → zero ≡ o.zero → o.plus zero (multiple o c x) ≡ multiple o c x
-  rounds_none c x zero e = ap (λ z. o.plus z (multiple o c x)) e ∙ zero_plus L (multiple o c x)
-
   pub rounds_odd : (c : ℕ) (s x s' x' : F) → c % 2 ≡ 1 → s' ≡ o.plus s x → x' ≡ o.plus x x → o.plus s' (multiple o (c / 2) x') ≡ o.plus s (multiple o c x)
   rounds_odd c s x s' x' odd e f =
       let rest = multiple o (c / 2) (o.plus x x) in
@@ -22,8 +18,3 @@ module _ {F : Type 0} {o : Ops F} (L : Laws o) where
       let rest = multiple o (c / 2) (o.plus x x) in
       let half : multiple o c x ≡ o.plus (multiple o 0 x) rest = multiple_half L c x ∙ ap (λ r. o.plus (multiple o r x) rest) even in
       rw (e, f, half) (ring L (s ∷ rest ∷ []) (search made depth 40 fits 100000) tt)
-
-  pub rounds_all : (c : ℕ) (s x : F) → c ≤ 0 → o.plus s (multiple o c x) ≡ s
-  rounds_all c s x h =
-      let e : c ≡ 0 = omega arith in
-      ap (λ n. o.plus s (multiple o n x)) e ∙ L.plus_zero s

@@ -1,5 +1,6 @@
 -- What a question reads from cells that hold a ledger, and that it leaves them so. Assumes nothing.
-use Rattle.std.proofs.Common.{◌≡◌, ℕ, ◌+◌, ◌<◌, ◌≤◌, Bool, true, false, cond, leb, List, ◌∷◌, ◌++◌, map, length, get_or, drop, sym, ap, ◌∙◌, add-one, arith}
+use Rattle.std.proofs.Common.{◌≡◌, ℕ, ◌+◌, ◌<◌, ◌≤◌, Bool, true, false, cond, leb, List, ◌∷◌, ◌++◌, map, length, ◌-◌, get_or, take, drop, sym, ap, ◌∙◌, add-one, arith, length-drop}
+use Rattle.std.proofs.lemmas.List.{get_or-take, get_or-drop, length-take-le}
 use Rattle.std.proofs.lemmas.Bool.{cond-true, le-leb}
 use Rattle.algebra.specs.Ring.{Ops, Laws, semi}
 use Rattle.algebra.specs.Rows.{row}
@@ -16,6 +17,14 @@ module _ {F P : Type 0} {o : Ops F} {plain : F → P} (figure : P → F) (back :
 
   pub read_sum : (k : ℕ) (x : Cell P) (y : F) → k < length cells → y ≡ figure (get_or cells k x).sum → y ≡ elementary o k (figures l.lives)
   read_sum k x y h e = e ∙ ap (λ c. figure c.sum) (get_or_held held k x (omega (arith, length_held held))) ∙ back _
+
+-- The cells from place k on, m more than one of them.
+module _ {X : Type 0} (xs : List X) (k m : ℕ) (within : k + m < length xs) where
+  pub length_part : length (take (k + m + 1 - k) (drop k xs)) ≡ m + 1
+  length_part = omega (arith, length-take-le (k + m + 1 - k) (drop k xs) (omega (arith, length-drop k xs)))
+
+  pub get_or_part : (t : ℕ) (x : X) → t < m + 1 → get_or (take (k + m + 1 - k) (drop k xs)) t x ≡ get_or xs (k + t) x
+  get_or_part t x h = get_or-take (k + m + 1 - k) (drop k xs) t x (omega arith) ∙ get_or-drop k xs t x
 
 -- A question alters nothing, whether it was refused or not.
 pub asked : {F P : Type 0} {o : Ops F} {plain : F → P} {size : ℕ} {l : Ledger F} {cells : List (Cell P)} → Holds o plain size l cells

@@ -1,15 +1,18 @@
 -- The composed row: one pass, and one life after the other. Assumes nothing.
-use Rattle.std.proofs.Common.{◌≡◌, ℕ, suc, ◌+◌, ◌<◌, ◌≤◌, List, [], ◌∷◌, ◌++◌, map, length, get_or, take, drop, set, sym, ap, ◌∙◌, ap₂, add-one, arith}
-use Rattle.std.specs.List.{range_with_len}
-use Rattle.std.proofs.lemmas.List.{length-map, length-take-le, map_more, drop_more, take_all, nil_from_length}
+use Rattle.std.proofs.Common.{◌≡◌, ℕ, ◌+◌, ◌<◌, ◌≤◌, List, [], ◌∷◌, ◌++◌, map, length, get_or, take, drop, set, sym, refl, ap, ◌∙◌, ap₂, add-one, arith}
+use Rattle.std.proofs.lemmas.List.{length-map, length-take-le, map_more, drop_more, take_at, drop_at, take_all, nil_from_length}
 use Rattle.algebra.specs.Ring.{Semi, Ops, Laws, semi}
 use Rattle.algebra.specs.Patterns.{Life, exactly}
 use Rattle.algebra.specs.Rows.{row}
 use Rattle.algebra.specs.Sums.{against}
 use Rattle.algebra.proofs.Semiring.{SemiLaws, laws_semi}
 use Rattle.algebra.proofs.Patterns.{exactly_zero_nil, exactly_beyond}
-use Rattle.algebra.proofs.Composition.{composing, composing_none, composing_old, composing_new, composing_zero, composing_suc, composing_all, exactly_more_end}
-use Rattle.roster.proofs.RowsTable.{read_row, write_row, grow_row}
+use Rattle.algebra.proofs.Composition.{compose, compose_row}
+use Rattle.roster.proofs.RowsTable.{figures_back, length_row, grow_row}
+
+-- The pass over entries in their plain form; `below` is the old entry before them.
+abbrev pub composed : {F P : Type 0} → Semi F → (F → P) → (P → F) → Life F → F → List P → List P
+composed s plain figure l below entries = map plain (compose s l below (map figure entries))
 
 module _ {F P : Type 0} {s : Semi F} (L : SemiLaws s) (plain : F → P) where
   -- Nobody yet.
@@ -17,44 +20,22 @@ module _ {F P : Type 0} {s : Semi F} (L : SemiLaws s) (plain : F → P) where
   row_first [] one w h e f = absurd (omega arith)
   row_first (x ∷ xs) one w h e f = ap (λ y. y ∷ xs) (f ∙ ap plain (e ∙ sym (exactly_zero_nil L)))
 
-  module _ (figure : P → F) (back : (x : F) → figure (plain x) ≡ x) (ls : List (Life F)) (l : Life F) (rest table : List P) where
-    -- The entry past the end of the row.
-    pub compose_first : (last : ℕ) (old x : P) (y v : F) (w : P) → length ls ≡ last → table ≡ map plain (row s (last + 1) ls) ++ (old ∷ rest)
-        → y ≡ figure (get_or table last x) → v ≡ s.times l.alive y → w ≡ plain v
-        → set table (last + 1) w ≡ map plain (map (composing s ls l (last + 1)) (range_with_len 0 (last + 2))) ++ rest
-    compose_first last old x y v w len is is_y is-v is-w =
-        let top = last + 1 in
-        let longer : last + 2 ≡ top + 1 = omega arith in
-        let read : y ≡ exactly s last ls = read_row plain figure back (λ k. exactly s k ls) top last (old ∷ rest) table x y is (omega arith) is_y in
-        let beyond : exactly s top ls ≡ s.zero = exactly_beyond L top ls (omega arith) in
-        let both : exactly s top (ls ++ (l ∷ [])) ≡ s.plus (s.times l.alive (exactly s last ls)) (s.times l.dead s.zero) = exactly_more_end L ls l last ∙ ap (λ z. s.plus (s.times l.alive (exactly s last ls)) (s.times l.dead z)) beyond in
-        let single : s.plus (s.times l.alive (exactly s last ls)) (s.times l.dead s.zero) ≡ s.times l.alive (exactly s last ls) = ap (s.plus (s.times l.alive (exactly s last ls))) (L.times_zero l.dead) ∙ L.plus_zero _ in
-        let written : v ≡ composing s ls l top top = is-v ∙ ap (s.times l.alive) read ∙ sym (composing_new L ls l top top (omega arith) ∙ both ∙ single) in
-        grow_row plain (composing s ls l top) top (last + 2) old rest table w longer (is ∙ ap (λ xs. map plain xs ++ (old ∷ rest)) (composing_none L ls l top top (omega arith))) (is-w ∙ ap plain written)
-
-    -- An entry below it; p is the place above q, and the pass had come down to t.
-    pub compose_down : (size q p t : ℕ) (x x' : P) (y z a b v : F) (w : P) → p ≡ q + 1 → t ≡ p + 1 → p < size
-        → table ≡ map plain (map (composing s ls l t) (range_with_len 0 size)) ++ rest
-        → y ≡ figure (get_or table q x) → z ≡ figure (get_or table p x') → a ≡ s.times l.alive y → b ≡ s.times l.dead z → v ≡ s.plus a b → w ≡ plain v
-        → set table p w ≡ map plain (map (composing s ls l p) (range_with_len 0 size)) ++ rest
-    compose_down size q p t x x' y z a b v w above next h is is_y is-z is-a is_b is-v is-w =
-        let below : y ≡ exactly s q ls = read_row plain figure back (composing s ls l t) size q rest table x y is (omega arith) is_y ∙ composing_old L ls l t q (omega arith) in
-        let here : z ≡ exactly s p ls = read_row plain figure back (composing s ls l t) size p rest table x' z is h is-z ∙ composing_old L ls l t p (omega arith) in
-        let up : p ≡ suc q = omega arith in
-        let upper : t ≡ suc (suc q) = omega arith in
-        let made : v ≡ s.plus (s.times l.alive (exactly s q ls)) (s.times l.dead (exactly s (suc q) ls)) = is-v ∙ ap₂ s.plus (is-a ∙ ap (s.times l.alive) below) (is_b ∙ ap (s.times l.dead) (here ∙ ap (λ k. exactly s k ls) up)) in
-        let step : set (map (composing s ls l t) (range_with_len 0 size)) p v ≡ map (composing s ls l p) (range_with_len 0 size) = rw (upper, up) (composing_suc L ls l size q v made) in
-        write_row plain (composing s ls l t) (composing s ls l p) size p rest table v w is h is-w step
-
-    -- The lowest entry.
-    pub compose_last : (size t : ℕ) (x : P) (y v : F) (w : P) → t ≡ 1 → 0 < size
-        → table ≡ map plain (map (composing s ls l t) (range_with_len 0 size)) ++ rest
-        → y ≡ figure (get_or table 0 x) → v ≡ s.times l.dead y → w ≡ plain v
-        → set table 0 w ≡ map plain (row s size (ls ++ (l ∷ []))) ++ rest
-    compose_last size t x y v w first h is is_y is-v is-w =
-        let here : y ≡ exactly s 0 ls = read_row plain figure back (composing s ls l t) size 0 rest table x y is h is_y ∙ composing_old L ls l t 0 (omega arith) in
-        let step : set (map (composing s ls l t) (range_with_len 0 size)) 0 v ≡ map (composing s ls l 0) (range_with_len 0 size) = rw first (composing_zero L ls l size v (is-v ∙ ap (s.times l.dead) here)) in
-        write_row plain (composing s ls l t) (composing s ls l 0) size 0 rest table v w is h is-w step ∙ ap (λ xs. map plain xs ++ rest) (composing_all L ls l size)
+  module _ (figure : P → F) (back : (x : F) → figure (plain x) ≡ x) where
+    -- A life joins the row at the front of a table, and takes the entry past the row's end.
+    pub compose_joins : (ls : List (Life F)) (l : Life F) (i : ℕ) (old w : P) (v : F) (rest table after : List P) → length ls ≡ i
+        → table ≡ map plain (row s (i + 1) ls) ++ (old ∷ rest) → v ≡ s.zero → w ≡ plain v
+        → after ≡ composed s plain figure l s.zero (take (i + 1 + 1) (set table (i + 1) w))
+        → after ++ drop (i + 1 + 1) (set table (i + 1) w) ≡ map plain (row s (i + 1 + 1) (ls ++ (l ∷ []))) ++ rest
+    compose_joins ls l i old w v rest table after len is is-v is-w made =
+        let front = map plain (row s (i + 1 + 1) ls) in
+        let long : length front ≡ i + 1 + 1 = length_row plain (λ k. exactly s k ls) (i + 1 + 1) in
+        let none : exactly s (i + 1) ls ≡ s.zero = exactly_beyond L (i + 1) ls (omega arith) in
+        let grown : set table (i + 1) w ≡ front ++ rest = grow_row plain (λ k. exactly s k ls) (i + 1) (i + 1 + 1) old rest table w refl is (is-w ∙ ap plain (is-v ∙ sym none)) in
+        let taken : take (i + 1 + 1) (set table (i + 1) w) ≡ front = ap (take (i + 1 + 1)) grown ∙ take_at front rest (i + 1 + 1) long in
+        let left : drop (i + 1 + 1) (set table (i + 1) w) ≡ rest = ap (drop (i + 1 + 1)) grown ∙ drop_at front rest (i + 1 + 1) long in
+        let pass : composed s plain figure l s.zero front ≡ map plain (row s (i + 1 + 1) (ls ++ (l ∷ []))) =
+        ap (λ xs. map plain (compose s l s.zero xs)) (figures_back plain figure back (row s (i + 1 + 1) ls)) ∙ ap (map plain) (compose_row L ls l (i + 1 + 1)) in
+        ap₂ ◌++◌ (made ∙ ap (composed s plain figure l s.zero) taken ∙ pass) left
 
 -- One life more of the list.
 pub against_more : {F : Type 0} (o : Ops F) (d : F) (ps : List F) (i : ℕ) (whole alive less dead : F) → i < length ps
@@ -75,11 +56,9 @@ module _ {F P : Type 0} (o : Ops F) (plain : F → P) (d : F) (ps : List F) (ent
   composed_split z h is = is ∙ ap (λ t. map plain (row (semi o) (i + 1) (against o d (take i ps))) ++ t) (drop_more entry (i + 1) z h)
 
   pub composed_join : (l : Life F) → against o d (take i ps) ++ (l ∷ []) ≡ against o d (take (i + 1) ps)
-      → table ≡ map plain (row (semi o) (i + 2) (against o d (take i ps) ++ (l ∷ []))) ++ drop (i + 1 + 1) entry
+      → table ≡ map plain (row (semi o) (i + 1 + 1) (against o d (take i ps) ++ (l ∷ []))) ++ drop (i + 1 + 1) entry
       → table ≡ map plain (row (semi o) (i + 1 + 1) (against o d (take (i + 1) ps))) ++ drop (i + 1 + 1) entry
-  composed_join l e is =
-      let two : i + 2 ≡ i + 1 + 1 = omega arith in
-      is ∙ ap₂ (λ k ls. map plain (row (semi o) k ls) ++ drop (i + 1 + 1) entry) two e
+  composed_join l e is = is ∙ ap (λ ls. map plain (row (semi o) (i + 1 + 1) ls) ++ drop (i + 1 + 1) entry) e
 
   pub composed_all : (n : ℕ) → i ≡ n → length ps ≡ n → table ≡ map plain (row (semi o) (i + 1) (against o d (take i ps))) ++ drop (i + 1) entry
       → table ≡ map plain (row (semi o) (n + 1) (against o d ps)) ++ drop (n + 1) entry

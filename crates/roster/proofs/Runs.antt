@@ -1,6 +1,5 @@
 -- A chain of calls follows the ledger, since each link does. Assumes nothing.
-use Rattle.std.proofs.Common.{◌≡◌, ℕ, ◌≤◌, List, [], ◌∷◌, ◌++◌, length, take, drop, sym, refl, ap, ◌∙◌, subst, ap₂, arith, take_all}
-use lib.Seq.{take-append-le}
+use Rattle.std.proofs.Common.{◌≡◌, ℕ, List, [], ◌∷◌, ◌++◌, sym, refl, ap, ◌∙◌, subst, ap₂}
 use Rattle.algebra.specs.Ring.{Ops}
 use Rattle.roster.specs.Ledger.{Ledger, Call, Answer, answer, next, answers, final}
 use Rattle.roster.specs.Cells.{Holds, Met, Chain, none, link}
@@ -25,20 +24,6 @@ module _ {F P : Type 0} (o : Ops F) (plain : F → P) where
       → final o plain l (calls ++ (call ∷ [])) ≡ next o plain (final o plain l calls) call
   final_more l [] call = refl
   final_more l (c ∷ calls) call = final_more (next o plain l c) calls call
-
-  -- a link, with the call and the answer written otherwise
-  pub restated : (call call' : Call F P) (given given' : Answer F P) (before after : List (Cell P)) → call ≡ call' → given ≡ given'
-      → Met o plain call' before given' after → Met o plain call before given after
-  restated call call' given given' before after c g met = λ size l h.
-      let m = met size l h in
-      (g ∙ m.0 ∙ ap (answer o plain l) (sym c), subst (λ x. Holds o plain size (next o plain l x) after) (sym c) m.1)
-
--- what a vector holds once its slice is given back
-pub written_back : {X : Type 0} (size : ℕ) (xs items : List X) → length xs ≡ size → take size (xs ++ drop (length xs) items) ≡ xs
-written_back size xs items long =
-    let within : size ≤ length xs = omega arith in
-    let whole : length xs ≤ size = omega arith in
-    take-append-le size xs (drop (length xs) items) within ∙ take_all size xs whole
 
 -- a run, and one call more
 pub ran_more : {F P : Type 0} (o : Ops F) (plain : F → P) (size : ℕ) (start : Ledger F) (calls : List (Call F P)) (gives : List (Answer F P))

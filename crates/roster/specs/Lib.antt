@@ -4,3 +4,4 @@ pub mod Passes
 pub mod Refusals
 pub mod Runs
 pub mod Requests
+pub mod Triangle

@@ -1,12 +1,13 @@
 -- Requests and outcomes of the code as the ledger's calls and answers. Assumes nothing.
-use Rattle.std.specs.Prelude.{vec_items}
+use Rattle.std.specs.Prelude.{ℕ, Some, None, Option, Ok, Err, Result, Vec, vec_items}
 use Rattle.roster.specs.Ledger as ledger
-use Rattle.roster.specs.Ledger.{Call, Answer}
+use Rattle.roster.specs.Ledger.{Call}
 use Rattle.roster.specs.Refusals.{refusal_number}
 use Rattle.roster.specs.declared.requests.Request.{Request}
 use Rattle.roster.specs.declared.requests.Request.TheVariants.{Join, Leave, Change, Clear, Exactly, AtLeast, Composed, Triangle}
-use Rattle.roster.specs.declared.requests.Outcome.{Outcome}
-use Rattle.roster.specs.declared.requests.Outcome.TheVariants.{Done, Refused, Figure, Table, RefusedTable}
+use Rattle.roster.specs.declared.requests.Answer.{Answer}
+use Rattle.roster.specs.declared.requests.Answer.TheVariants.{Done, Figure, Table}
+use Rattle.roster.specs.declared.requests.Refused.{Refused}
 
 abbrev pub call_of : {F P : Type 0} → Request F P → Call F P
 call_of (Join number figure) = ledger.Join number figure
@@ -18,9 +19,13 @@ call_of (AtLeast k) = ledger.AtLeast k
 call_of (Composed table) = ledger.Composed (vec_items table)
 call_of (Triangle table) = ledger.Triangle (vec_items table)
 
-abbrev pub answer_of : {F P : Type 0} → Outcome F P → Answer F P
-answer_of Done = ledger.Done
-answer_of (Refused e) = ledger.Refused (refusal_number e)
-answer_of (Figure x) = ledger.Figure x
-answer_of (Table t) = ledger.Table (vec_items t)
-answer_of (RefusedTable e t) = ledger.RefusedTable (refusal_number e) (vec_items t)
+-- A refusal by its number, and a row's table where there is one.
+abbrev pub refused_of : {F P Z : Type 0} → ℕ → Option (Vec P Z) → ledger.Answer F P
+refused_of n None = ledger.Refused n
+refused_of n (Some t) = ledger.RefusedTable n (vec_items t)
+
+abbrev pub answer_of : {F P : Type 0} → Result (Answer F P) (Refused P) → ledger.Answer F P
+answer_of (Ok Done) = ledger.Done
+answer_of (Ok (Figure x)) = ledger.Figure x
+answer_of (Ok (Table t)) = ledger.Table (vec_items t)
+answer_of (Err refused) = refused_of (refusal_number refused.refusal) refused.table

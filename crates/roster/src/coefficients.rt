@@ -10,8 +10,10 @@ pub(crate) fn coefficients(j: usize, last: usize) -> [u64; 65]
     let mut row = [0; 65];
     row[0] = 1;
     for _pass in 0..j {
-        for t in 0..last {
-            row[t + 1] += row[t];
+        let mut sum = 0;
+        for entry in &mut row[..=last] {
+            sum += *entry;
+            *entry = sum;
         }
     }
     row

@@ -41,8 +41,8 @@ fn alternating<F: Ring>(cells: &[Cell<F::Plain>], j: usize, k: usize, m: usize) 
     let whole = F::from_plain(cells[0].figure);
     let ways = coefficients(j, m);
     let mut sum = F::zero();
-    for t in 0..m + 1 {
-        let kept = F::from_plain(cells[k + t].sum);
+    for (t, cell) in cells[k..=k + m].iter().enumerate() {
+        let kept = F::from_plain(cell.sum);
         sum = sum.mul(whole).add(signed(t, multiple(ways[t], kept)));
     }
     sum
@@ -65,6 +65,7 @@ fn tail<F: Ring>(cells: &[Cell<F::Plain>], j: usize, k: usize) -> F
     alternating(cells, j, k, n - k)
 }
 
+// Two functions, since each promises the answer to another of the ledger's calls.
 /// Exactly k alive.
 pub(crate) fn exactly_of<F: Ring>(cells: &[Cell<F::Plain>], k: u32) -> Result<F, Refusal>
     ensures { Met F.Ring.ops F.Ring.plain (Exactly k) cells.now (figure_or result) cells.now }

@@ -2,41 +2,27 @@
 ghost use Rattle.std.specs.Prelude.{◌≡◌, map, length, MatchResult};
 ghost use Rattle.roster.specs.Cells.{Holds, Met};
 ghost use Rattle.roster.specs.Ledger.{opened, answers, final};
-ghost use Rattle.roster.specs.Refusals.{done_or, figure_or, table_or};
+ghost use Rattle.roster.specs.Refusals.{table_or};
 ghost use Rattle.roster.specs.Requests.{call_of, answer_of};
 
 use crate::cells::Cell;
 use crate::refusals::Refusal;
-use crate::requests::{Outcome, Request};
+use crate::requests::{Answer, Outcome, Refused, Request};
 use crate::rosters::Roster;
 use crate::slips::Slip;
 use figures::Ring;
 use std::alloc::{AllocError, Global};
 
-fn done<F, P>(res: Result<(), Refusal>) -> Outcome<F, P>
-    ensures { answer_of result ≡ done_or res }
-{
-    match res {
-        Ok(()) => Outcome::Done,
-        Err(refusal) => Outcome::Refused(refusal),
-    }
-}
-
-fn figured<F, P>(res: Result<F, Refusal>) -> Outcome<F, P>
-    ensures { answer_of result ≡ figure_or res }
-{
-    match res {
-        Ok(figure) => Outcome::Figure(figure),
-        Err(refusal) => Outcome::Refused(refusal),
-    }
-}
-
+/// What came of a row.
 fn tabled<F, P>(res: Result<(), Refusal>, table: Vec<P>) -> Outcome<F, P>
     ensures { answer_of result ≡ table_or res table.items }
 {
     match res {
-        Ok(()) => Outcome::Table(table),
-        Err(refusal) => Outcome::RefusedTable(refusal, table),
+        Ok(()) => Ok(Answer::Table(table)),
+        Err(refusal) => Err(Refused {
+            refusal,
+            table: Some(table),
+        }),
     }
 }
 
@@ -49,24 +35,22 @@ fn perform<F: Ring>(
     ensures lent { roster.new.cells.ghost_name ≡ roster.old.cells.ghost_name }
 {
     match request {
-        Request::Join { number, figure } => done(roster.join(number, figure)),
-        Request::Leave { number } => done(roster.leave(number)),
-        Request::Change { number, figure } => done(roster.change(number, figure)),
-        Request::Clear => {
-            roster.clear();
-            Outcome::Done
-        }
-        Request::Exactly { k } => figured(roster.exactly(k)),
-        Request::AtLeast { k } => figured(roster.at_least(k)),
+        Request::Join { number, figure } => roster.join(number, figure)?,
+        Request::Leave { number } => roster.leave(number)?,
+        Request::Change { number, figure } => roster.change(number, figure)?,
+        Request::Clear => roster.clear(),
+        Request::Exactly { k } => return Ok(Answer::Figure(roster.exactly(k)?)),
+        Request::AtLeast { k } => return Ok(Answer::Figure(roster.at_least(k)?)),
         Request::Composed { mut table } => {
             let result = roster.composed_row(&mut table);
-            tabled(result, table)
+            return tabled(result, table);
         }
         Request::Triangle { mut table } => {
             let result = roster.triangle_row(&mut table);
-            tabled(result, table)
+            return tabled(result, table);
         }
     }
+    Ok(Answer::Done)
 }
 
 /// Opens a roster and makes the calls, one after the other. Where there is no memory for the outcomes, nothing is done.

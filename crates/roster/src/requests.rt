@@ -1,4 +1,6 @@
 //! Calls of a roster as values, and what comes of them.
+ghost use Rattle.std.specs.Prelude.{◌≡◌, None};
+
 use crate::refusals::Refusal;
 
 /// A call with its arguments: figures of a kind F, tables of figures in their plain form P.
@@ -14,12 +16,31 @@ pub enum Request<F, P> {
     Triangle { table: Vec<P> },
 }
 
-/// What came of a call. A row's table comes back, as it is then.
+/// What came of a call that was granted. A row's table comes back, as it is then.
 #[derive(Drop)]
-pub enum Outcome<F, P> {
+pub enum Answer<F, P> {
     Done,
-    Refused(Refusal),
     Figure(F),
     Table(Vec<P>),
-    RefusedTable(Refusal, Vec<P>),
 }
+
+/// A refused call: why, and a row's table as it was handed over.
+#[derive(Drop)]
+pub struct Refused<P> {
+    pub refusal: Refusal,
+    pub table: Option<Vec<P>>,
+}
+
+impl<P> From<Refusal> for Refused<P> {
+    ghost from_gives = { λ refusal refused. refused ≡ record { refusal = refusal; table = None } };
+
+    fn from(refusal: Refusal) -> Refused<P> {
+        Refused {
+            refusal,
+            table: None,
+        }
+    }
+}
+
+/// What came of a call.
+pub type Outcome<F, P> = Result<Answer<F, P>, Refused<P>>;

@@ -1,56 +1,55 @@
 //! Rows: exactly 0 to exactly n alive, at the front of a table of figures in their plain form.
-ghost use Rattle.std.specs.Prelude.{◌≡◌, ℕ, ◌+◌, ◌-◌, ◌<◌, ◌≤◌, List, [], ◌∷◌, ◌++◌, map, length, drop};
+ghost use Rattle.std.specs.Prelude.{◌≡◌, ℕ, ◌+◌, ◌<◌, ◌≤◌, map, length};
 ghost use Rattle.std.specs.List.{range_with_len};
-ghost use Rattle.algebra.specs.Patterns.{Life};
 ghost use Rattle.algebra.specs.Ring.{semi};
-ghost use Rattle.algebra.specs.Rows.{row};
-ghost use Rattle.algebra.specs.Sums.{elementary, power};
-ghost use Rattle.algebra.proofs.Triangle.{triangle};
+ghost use Rattle.algebra.proofs.Composition.{compose};
+ghost use Rattle.algebra.proofs.Waring.{entry};
 ghost use Rattle.roster.specs.Cells.{Holds, Met};
 ghost use Rattle.roster.specs.Ledger.{Ledger, Composed, Triangle, figures};
 ghost use Rattle.roster.specs.Refusals.{table_or};
+ghost use Rattle.roster.specs.Triangle.{differences};
 
 use crate::cells::Cell;
 use crate::counting::count;
 use crate::refusals::Refusal;
 use figures::Ring;
 
-/// One life more in a row that ends at place `last`, in place and from the highest place down:
-/// entry r becomes alive · entry(r − 1) + dead · entry(r). What stands past the row's end is not read.
-fn compose<F: Ring>(table: &mut [F::Plain], last: usize, alive: F, dead: F)
-    requires { last + 1 < length table.old }
-    ensures { (ls : List (Life F)) (old : F.Plain) (rest : List F.Plain) → length ls ≡ last → table.old ≡ map F.Ring.plain (row (semi F.Ring.ops) (last + 1) ls) ++ (old ∷ rest) → table.new ≡ map F.Ring.plain (row (semi F.Ring.ops) (last + 2) (ls ++ (record { alive = alive; dead = dead } ∷ []))) ++ rest }
+/// One life more in a row whose last entry is new and zero, in place: each entry becomes
+/// alive · the old one below it + dead · itself.
+fn compose<F: Ring>(row: &mut [F::Plain], alive: F, dead: F)
+    ensures { row.new ≡ map F.Ring.plain (compose (semi F.Ring.ops) (record { alive = alive; dead = dead }) F.Ring.ops.zero (map F.Ring.figure row.old)) }
 {
-    table[last + 1] = alive.mul(F::from_plain(table[last])).to_plain();
-    for r in (0..last).rev() {
-        let below = F::from_plain(table[r]);
-        let here = F::from_plain(table[r + 1]);
-        table[r + 1] = alive.mul(below).add(dead.mul(here)).to_plain();
+    let mut below = F::zero();
+    for entry in row.iter_mut() {
+        let here = F::from_plain(*entry);
+        *entry = alive.mul(below).add(dead.mul(here)).to_plain();
+        below = here;
     }
-    table[0] = dead.mul(F::from_plain(table[0])).to_plain();
 }
 
-/// Where the triangle starts: B(r) · d^(n−r) at each place r, B the kept sums and d the whole.
-fn weigh<F: Ring>(cells: &[Cell<F::Plain>], table: &mut [F::Plain], n: usize)
-    requires { (n < length cells.now) × (n < length table.old) }
-    ensures { (size : ℕ) (l : Ledger F) → Holds F.Ring.ops F.Ring.plain size l cells.now → table.new ≡ map F.Ring.plain (map (λ q. F.Ring.ops.times (elementary F.Ring.ops q (figures l.lives)) (power F.Ring.ops l.whole (n - q))) (range_with_len 0 (n + 1))) ++ drop (n + 1) table.old }
+/// Where the triangle starts: B(r) · d^(n−r) at each place r of a row for n lives, B the kept sums and d the whole.
+fn weigh<F: Ring>(cells: &[Cell<F::Plain>], row: &mut [F::Plain])
+    requires { (0 < length cells.now) × (length row.old ≤ length cells.now) }
+    ensures { (size : ℕ) (l : Ledger F) → Holds F.Ring.ops F.Ring.plain size l cells.now → length row.old ≡ length l.lives + 1 → row.new ≡ map F.Ring.plain (map (entry F.Ring.ops l.whole (figures l.lives) 0) (range_with_len 0 (length (figures l.lives) + 1))) }
 {
     let whole = F::from_plain(cells[0].figure);
     let mut power = F::one();
-    for r in (0..n + 1).rev() {
-        table[r] = F::from_plain(cells[r].sum).mul(power).to_plain();
+    // By index: a proof knows nothing of what is written through a reversed iterator.
+    for r in (0..row.len()).rev() {
+        row[r] = F::from_plain(cells[r].sum).mul(power).to_plain();
         power = whole.mul(power);
     }
 }
 
-/// One pass of the triangle, down to place `from`: each entry less the one above it.
-fn differences<F: Ring>(table: &mut [F::Plain], from: usize, last: usize)
-    requires { (from ≤ last) × (last < length table.old) }
-    ensures { (d : F) (ps : List F) (rest : List F.Plain) → table.old ≡ map F.Ring.plain (map (triangle F.Ring.ops d ps from last) (range_with_len 0 (last + 1))) ++ rest → table.new ≡ map F.Ring.plain (map (triangle F.Ring.ops d ps from from) (range_with_len 0 (last + 1))) ++ rest }
+/// One pass of the triangle, from the top down: each entry less the new one above it.
+fn differences<F: Ring>(row: &mut [F::Plain])
+    ensures { row.new ≡ map F.Ring.plain (differences F.Ring.ops (map F.Ring.figure row.old)) }
 {
-    for r in (from..last).rev() {
-        let above = F::from_plain(table[r + 1]);
-        table[r] = F::from_plain(table[r]).add(above.neg()).to_plain();
+    let mut above = F::zero();
+    // By index: a proof knows nothing of what is written through a reversed iterator.
+    for r in (0..row.len()).rev() {
+        above = F::from_plain(row[r]).add(above.neg());
+        row[r] = above.to_plain();
     }
 }
 
@@ -66,10 +65,15 @@ pub(crate) fn composed_row_of<F: Ring>(
         return Err(Refusal::ShortTable);
     }
     table[0] = F::one().to_plain();
-    for i in 0..n {
-        let whole = F::from_plain(cells[0].figure);
-        let alive = F::from_plain(cells[i + 1].figure);
-        compose(table, i, alive, whole.add(alive.neg()));
+    // With no cells there is no life.
+    let Some((first, lives)) = cells.split_first() else {
+        return Ok(());
+    };
+    let whole = F::from_plain(first.figure);
+    for (i, life) in lives[..n].iter().enumerate() {
+        let alive = F::from_plain(life.figure);
+        table[i + 1] = F::zero().to_plain();
+        compose(&mut table[..=i + 1], alive, whole.add(alive.neg()));
     }
     Ok(())
 }
@@ -90,9 +94,10 @@ pub(crate) fn triangle_row_of<F: Ring>(
         table[0] = F::one().to_plain();
         return Ok(());
     }
-    weigh::<F>(cells, table, last);
+    let row = &mut table[..=last];
+    weigh::<F>(cells, row);
     for i in 0..last {
-        differences::<F>(table, i, last);
+        differences::<F>(&mut row[i..]);
     }
     Ok(())
 }

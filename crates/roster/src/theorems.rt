@@ -7,16 +7,12 @@ use figures::Ring;
 
 /// Whatever calls are made, in any order, of a newly opened roster: every answer is the ledger's, and after each call
 /// the cells hold what the ledger then says.
-pub fn chains_follow_the_ledger<F: Ring>() -> u8
+pub fn chains_follow_the_ledger<F: Ring>()
     ensures { ChainsFollow F.Ring.ops F.Ring.plain }
-{
-    0
-}
+{}
 
 /// Waring's two sums, over figures of any kind: exactly k and at least k are alternating sums of the kept sums.
-pub fn waring_sums_hold<F: Ring>() -> u8
+pub fn waring_sums_hold<F: Ring>()
     ensures exactly { (d : F) (ps : List F) (k : ℕ) → k ≤ length ps → WaringExactly F.Ring.ops d ps k }
     ensures at_least { (d : F) (ps : List F) (k : ℕ) → 1 ≤ k → k ≤ length ps → WaringAtLeast F.Ring.ops d ps k }
-{
-    0
-}
+{}

@@ -1,25 +1,22 @@
-use Rattle.std.proofs.Common.{refl, arith}
-use Rattle.roster.proofs.QuestionsWays.{passed_none, passing_none, passing_all, passing_fits, passing_more, passed_read}
+use Rattle.std.proofs.Common.{◌+◌, drop, refl, ◌∙◌, arith, length-append, length-drop}
+use Rattle.std.proofs.lemmas.List.{get_or_append_left, length-take-le}
+use Rattle.roster.proofs.QuestionsWays.{ways_sum_fits, ways_none}
 use Rattle.roster.proofs.coefficients.coefficients.Goals as goal
 
-pub overflow_add-row-in-loop-t : goal.overflow_add-row-in-loop-t
-overflow_add-row-in-loop-t c =
-    let l = c.loop-t in
-    omega (arith, passing_fits c.loop-pass._pass c.args.last l.row l.t l.invariant c.loop-t-test.true (omega arith))
-
 pub loop-pass-init : goal.loop-pass-init
-loop-pass-init c = passed_none c.args.last c.requires.1
+loop-pass-init c = (refl, λ t h. ways_none c.args.last t c.requires.1 h)
+
+pub overflow_add-sum : goal.overflow_add-sum
+overflow_add-sum c =
+    let e = c.loop-entry in
+    let long = length-take-le (c.args.last + 1) c.loop-pass.row (omega (arith, c.loop-pass.invariant.0)) in
+    omega (arith, ways_sum_fits c.loop-pass._pass c.args.last e.entry-index (omega arith) (omega arith), e.invariant.2 e.entry-index (omega arith) (omega arith))
 
 pub loop-pass-preserved : goal.loop-pass-preserved
-loop-pass-preserved c = passing_all c.loop-pass._pass c.args.last c.loop-t.row c.loop-t.t c.loop-t-test.false c.loop-t.invariant
-
-pub loop-t-init : goal.loop-t-init
-loop-t-init c = passing_none c.loop-pass._pass c.args.last c.loop-pass.row c.loop-pass.invariant
-
-pub loop-t-preserved : goal.loop-t-preserved
-loop-t-preserved c =
-    let l = c.loop-t in
-    passing_more c.loop-pass._pass c.args.last l.row l.t l.invariant c.loop-t-test.true c.requires.1 _ refl
-
-pub returns : goal.returns
-returns c = passed_read c.loop-pass._pass c.args.j c.args.last c.loop-pass.row (omega arith) c.loop-pass.invariant
+loop-pass-preserved c =
+    let e = c.loop-entry in
+    let rest = drop (c.args.last + 1) c.loop-pass.row in
+    let long = length-take-le (c.args.last + 1) c.loop-pass.row (omega (arith, c.loop-pass.invariant.0)) in (
+      omega (arith, length-append e.entry-items rest, length-drop (c.args.last + 1) c.loop-pass.row),
+      λ t h. get_or_append_left e.entry-items rest 0 t (omega arith) ∙ e.invariant.1 t (omega arith),
+    )

@@ -1,8 +1,14 @@
-use Rattle.roster.proofs.QuestionsWays.{Passing, Passed}
+use Rattle.std.proofs.Common.{◌≡◌, ℕ, ◌+◌, ◌≤◌, ◌<◌, length, get_or}
+use Rattle.algebra.proofs.Binomial.{ways}
+use Rattle.roster.proofs.QuestionsWays.{ways_before}
 use Rattle.roster.proofs.coefficients.coefficients.Given as goal
 
-abbrev pub invariant-loop-t : goal.invariant-loop-t
-invariant-loop-t l = Passing l._pass l.t l.last l.row
+-- The entries so far have gone through this pass, and the sum is the last of them.
+abbrev pub invariant-loop-entry : goal.invariant-loop-entry
+invariant-loop-entry l =
+    (l.sum ≡ ways_before (l._pass + 1) l.entry-index)
+    × ((t : ℕ) → t < l.entry-index → get_or l.entry-items t 0 ≡ ways (l._pass + 1) t)
+    × ((t : ℕ) → l.entry-index ≤ t → t ≤ l.last → get_or l.entry-items t 0 ≡ ways l._pass t)
 
 abbrev pub invariant-loop-pass : goal.invariant-loop-pass
-invariant-loop-pass l = Passed l._pass l.last l.row
+invariant-loop-pass l = (length l.row ≡ 65) × ((t : ℕ) → t ≤ l.last → get_or l.row t 0 ≡ ways l._pass t)

@@ -1,4 +1,4 @@
-use Rattle.std.proofs.Common.{◌≡◌, [], ◌∷◌, ◌++◌, map, length, vec_items, sym, ap, ◌∙◌, subst, append_assoc, append-nil, arith, length-append}
+use Rattle.std.proofs.Common.{rules, ◌≡◌, [], ◌∷◌, ◌++◌, map, length, vec_items, sym, ap, ◌∙◌, subst, append_assoc, append-nil, arith, length-append}
 use mathlib.Core.List.{map-append}
 use Rattle.std.specs.Vec.Iter.{into_iter_items}
 use Rattle.roster.specs.Cells.{Holds}
@@ -48,6 +48,6 @@ returns g c =
     ∙ c.loop-request.invariant.2 ∙ c.into_iter-request-iterator.ensures.into_iter_gives.0 in
     let kept = sym (c.loop-request.invariant.6 ∙ c.open-roster.ensures.lent) in (
       run.0 ∙ ap (λ xs. answers o plain start (map call_of xs)) all,
-      subst (λ cells. Holds o plain size (final o plain start (map call_of (vec_items c.args.requests))) cells) (sym (c.cells-1.given.1.1 kept))
+      subst (λ cells. Holds o plain size (final o plain start (map call_of (vec_items c.args.requests))) cells) (search rules)
           (subst (λ xs. Holds o plain size (final o plain start (map call_of xs)) c.loop-request.roster.cells.now) all run.1),
     )

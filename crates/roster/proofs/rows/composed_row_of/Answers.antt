@@ -1,14 +1,20 @@
-use Rattle.std.proofs.Common.{◌≡◌, ◌+◌, ◌<◌, [], ◌++◌, map, length, get_or, take, drop, set, sym, ap, ◌∙◌, arith}
-use Rattle.std.proofs.lemmas.List.{length-map, length-set, drop-set-lt}
+use Rattle.std.proofs.Common.{◌≡◌, ℕ, zero, suc, ◌+◌, ◌<◌, ◌≤◌, [], ◌++◌, map, length, get_or, take, drop, set, sym, refl, ap, ◌∙◌, add-one, arith}
+use Rattle.std.proofs.lemmas.List.{length-map, length-set, length-take-le, get_or-take, drop-set-lt}
 use Rattle.algebra.specs.Patterns.{Life}
 use Rattle.algebra.specs.Ring.{semi}
 use Rattle.algebra.specs.Rows.{row}
 use Rattle.algebra.specs.Sums.{against}
 use Rattle.algebra.proofs.Semiring.{laws_semi}
 use Rattle.roster.specs.Ledger.{Composed, figures, answer, is_refused}
+use Rattle.roster.proofs.Laying.{length_held}
 use Rattle.roster.proofs.QuestionsRead.{read_figure, asked, row_asked}
-use Rattle.roster.proofs.RowsComposed.{row_first, against_more, length_against, composed_split, composed_join, composed_all}
+use Rattle.roster.proofs.RowsComposed.{row_first, row_nobody, against_more, length_against, composed_split, composed_join, composed_all, compose_joins}
 use Rattle.roster.proofs.rows.composed_row_of.Goals as goal
+
+-- A count of lives is within the cells after the first.
+fits : (n size rest : ℕ) → (0 < n → n < size) → rest + 1 ≡ size → n ≤ rest
+fits zero size rest within more = omega arith
+fits (suc n) size rest within more = omega (arith, within (omega arith))
 
 pub loop-i-init : goal.loop-i-init
 loop-i-init g c size led held =
@@ -27,21 +33,28 @@ loop-i-preserved g c size led held =
     let d = led.whole in
     let ps = figures led.lives in
     let i = c.loop-i.i in
+    let n = c.count-n.result in
+    let cells = c.args.cells.now in
+    let others = c.in-Some.lives.now in
+    let x = c.life-item.result in
     let w = c.to_plain.result in
     let entry = set c.args.table.now 0 w in
     let l : Life g.row.F.Denot = record { alive = c.from_plain-alive.result; dead = c.add.result } in
+    let split = c.in-Some.ensures.cases.0 in
     let lives = c.count-n.ensures.lives size led held in
+    let part = length-take-le n others (fits _ _ _ c.count-n.ensures.within c.in-Some.ensures.cases.1) in
     let inside : i < length ps = rw length-map (omega arith) in
     let room : i + 1 < length entry = rw length-set (omega arith) in
-    let some : 0 < length c.args.cells.now = omega (arith, c.count-n.ensures.within) in
-    let within : i + 1 < length c.args.cells.now = omega (arith, c.count-n.ensures.within) in
+    let here : x ≡ get_or cells (i + 1) x = c.life-item.is ∙ get_or-take n others i x (omega arith) ∙ rw (split, add-one) refl in
     let more = against_more o d ps i c.from_plain-whole.result c.from_plain-alive.result c.neg.result c.add.result inside
-    (read_figure figure back held 0 c.index-cells-0.result c.from_plain-whole.result some c.from_plain-whole.ensures)
-    (read_figure figure back held (i + 1) c.index-cells-i.result c.from_plain-alive.result within c.from_plain-alive.ensures)
+    (read_figure figure back held 0 c.in-Some.first.now c.from_plain-whole.result (omega arith) (rw split c.from_plain-whole.ensures))
+    (read_figure figure back held (i + 1) x c.from_plain-alive.result (omega arith) (c.from_plain-alive.ensures ∙ ap (λ cell. figure cell.figure) here))
     c.neg.ensures c.add.ensures in
-    composed_join o plain d ps entry c.compose.new.table i l more
-    (c.compose.ensures (against o d (take i ps)) (get_or entry (i + 1) w) (drop (i + 1 + 1) entry) (length_against o d ps i (omega (arith, inside)))
-    (composed_split o plain d ps entry c.loop-i.table i w room (c.loop-i.invariant size led held)))
+    composed_join o plain d ps entry _ i l more
+    (compose_joins (laws_semi g.met.F.Ring.laws) plain figure back (against o d (take i ps)) l i (get_or entry (i + 1) w) c.to_plain-in-loop-i.result c.zero.result (drop (i + 1 + 1) entry) c.loop-i.table c.compose.new.row
+    (length_against o d ps i (omega (arith, inside)))
+    (composed_split o plain d ps entry c.loop-i.table i w room (c.loop-i.invariant size led held))
+    c.zero.ensures c.to_plain-in-loop-i.ensures c.compose.ensures)
 
 pub returns : goal.returns
 returns g c size led held =
@@ -50,10 +63,23 @@ returns g c size led held =
     let table = c.args.table.now in
     let w = c.to_plain.result in
     let n = c.count-n.result in
+    let part = length-take-le n c.in-Some.lives.now (fits _ _ _ c.count-n.ensures.within c.in-Some.ensures.cases.1) in
     let lives = c.count-n.ensures.lives size led held in
     let len : length (figures led.lives) ≡ n = rw length-map (sym lives) in
     let kept : drop (n + 1) (set table 0 w) ≡ drop (n + 1) table = drop-set-lt (n + 1) table 0 w (omega arith) in
     let whole = composed_all o plain led.whole (figures led.lives) (set table 0 w) c.loop-i.table c.loop-i.i n (omega arith) len (c.loop-i.invariant size led held) in (
       row_asked o plain led table c.loop-i.table n lives c.if-table-n.false (whole ∙ ap (λ t. map plain (row (semi o) (n + 1) (against o led.whole (figures led.lives))) ++ t) kept),
+      asked held (is_refused o plain (answer o plain led (Composed table))),
+    )
+
+pub returns-in_default : goal.returns-in_default
+returns-in_default g c size led held =
+    let o = g.F.Ring.ops in
+    let plain = g.F.Ring.plain in
+    let table = c.args.table.now in
+    let empty : length c.args.cells.now ≡ 0 = c.in_default.ensures.cases in
+    let nobody : length led.lives ≡ 0 = omega (arith, length_held held) in
+    let len : length (figures led.lives) ≡ 0 = rw length-map nobody in (
+      row_asked o plain led table _ 0 (sym nobody) (omega arith) (row_nobody g.met.F.Ring.laws plain led.whole (figures led.lives) table c.one.result c.to_plain.result len (omega arith) c.one.ensures c.to_plain.ensures),
       asked held (is_refused o plain (answer o plain led (Composed table))),
     )

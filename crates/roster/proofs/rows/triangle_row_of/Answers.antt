@@ -1,42 +1,34 @@
-use Rattle.std.proofs.Common.{◌≡◌, ◌+◌, length, drop, sym, arith, rules}
-use Rattle.std.proofs.lemmas.List.{length-map}
+use Rattle.std.proofs.Common.{◌≡◌, ◌+◌, ◌++◌, map, length, drop, sym, ap, ◌∙◌, arith}
+use Rattle.std.proofs.lemmas.List.{length-map, length-take-le, take_rest}
+use Rattle.algebra.specs.Ring.{semi}
+use Rattle.algebra.specs.Rows.{row}
+use Rattle.algebra.specs.Sums.{against}
 use Rattle.roster.specs.Ledger.{Triangle, figures, answer, is_refused}
-use Rattle.roster.proofs.Laying.{length_held}
+use Rattle.roster.specs.Triangle.{differences}
 use Rattle.roster.proofs.QuestionsRead.{asked, row_asked}
-use Rattle.roster.proofs.RowsComposed.{row_nobody}
-use Rattle.roster.proofs.RowsTriangle.{triangle_first, triangle_more, triangle_all}
+use Rattle.roster.proofs.RowsTable.{written_from}
+use Rattle.roster.proofs.RowsTriangle.{passes_more, passes_all}
 use Rattle.roster.proofs.rows.triangle_row_of.Goals as goal
 
 pub loop-i-preserved : goal.loop-i-preserved
-loop-i-preserved g c d ps rest len is =
-    triangle_more g.met.F.Ring.laws g.F.Ring.plain d ps rest c.differences.new.table c.count-last.result len c.loop-i.i (c.differences.ensures d ps rest (c.loop-i.invariant d ps rest len is))
-
-pub returns-then-is_empty : goal.returns-then-is_empty
-returns-then-is_empty g c size led held =
-    let o = g.F.Ring.ops in
-    let plain = g.F.Ring.plain in
-    let table = c.args.table.now in
-    let empty : length c.args.cells.now ≡ 0 = search rules in
-    let nobody : length led.lives ≡ 0 = omega (arith, length_held held) in
-    let len : length (figures led.lives) ≡ 0 = rw length-map nobody in (
-      row_asked o plain led table _ 0 (sym nobody) (omega arith) (row_nobody g.met.F.Ring.laws plain led.whole (figures led.lives) table c.one.result c.to_plain.result len (omega arith) c.one.ensures c.to_plain.ensures),
-      asked held (is_refused o plain (answer o plain led (Triangle table))),
-    )
+loop-i-preserved g c d ps lives first =
+    let l = c.loop-i in
+    written_from l.row c.differences.new.row l.i
+    ∙ passes_more g.met.F.Ring.laws g.F.Ring.plain d ps g.F.Ring.figure g.met.F.Ring.back l.i l.row c.differences.new.row (omega arith) (l.invariant d ps lives first)
+    (c.differences.ensures ∙ ap (λ xs. map g.F.Ring.plain (differences g.F.Ring.ops (map g.F.Ring.figure xs))) (take_rest l.row l.i))
 
 pub returns : goal.returns
 returns g c size led held =
     let o = g.F.Ring.ops in
     let plain = g.F.Ring.plain in
-    let L = g.met.F.Ring.laws in
-    let d = led.whole in
     let ps = figures led.lives in
     let table = c.args.table.now in
     let n = c.count-last.result in
     let rest = drop (n + 1) table in
     let lives = c.count-last.ensures.lives size led held in
     let len : length ps ≡ n = rw length-map (sym lives) in
-    let first = triangle_first L plain d ps rest c.weigh.new.table n len (c.weigh.ensures size led held) in
-    let whole = triangle_all L plain d ps rest c.loop-i.table n len c.loop-i.i (omega arith) (c.loop-i.invariant d ps rest len first) in (
-      row_asked o plain led table c.loop-i.table n lives c.if-table-last.false whole,
+    let first = c.weigh.ensures size led held (length-take-le (n + 1) table (omega arith) ∙ ap (λ k. k + 1) lives) in
+    let whole = passes_all g.met.F.Ring.laws plain led.whole ps c.loop-i.i c.loop-i.row (omega arith) (c.loop-i.invariant led.whole ps len first) in (
+      row_asked o plain led table (c.loop-i.row ++ rest) n lives c.if-table-last.false (ap (λ xs. xs ++ rest) whole ∙ ap (λ k. map plain (row (semi o) (k + 1) (against o led.whole ps)) ++ rest) len),
       asked held (is_refused o plain (answer o plain led (Triangle table))),
     )
