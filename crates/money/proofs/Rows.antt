@@ -1,12 +1,13 @@
 -- What the calls of `money_row` and `factor` give, put together. Assumes nothing.
 use Rattle.std.proofs.Common.{◌≡◌, ℕ, ◌+◌, ◌-◌, ◌<◌, ◌≤◌, List, [], ◌∷◌, ◌++◌, length, get_or, take, drop, set, sym, refl, ap, ◌∙◌, ap₂, arith, length-append}
-use Rattle.std.specs.List.{AllByRecursion}
+use Rattle.std.specs.List.{AllByRecursion, sum as std_sum}
 use Rattle.std.proofs.ByRecursion.{All-from_get_or, All-take}
 use Rattle.std.proofs.lemmas.List.{append_assoc, drop_at, drop_more, drop-set-lt, length-take-le, set_at, take_all, take_at}
 use Rattle.std.proofs.lemmas.List.Sums.{fold_more}
 use Rattle.algebra.specs.Patterns.{naturals, total}
 use Rattle.money.specs.Answer.{Admitted, FactorAnswered, RowAnswered}
 use Rattle.money.specs.Money.{whole, pass, with_life, money_row, factor_of}
+use Rattle.money.proofs.Sums.{total_is_sum}
 use Rattle.money.proofs.Rounding.{sum, get_or_le_sum, row_long, row_sum, near_all, factor_past}
 
 all_within : (lives : List ℕ) → Admitted lives → AllByRecursion (λ p. p ≤ whole) lives
@@ -70,7 +71,7 @@ row_all lives before row i a room e so_far =
         (drop-set-lt (i + 1) before 0 whole (omega arith) ∙ ap (λ n. drop (n + 1) before) e)
 
 pub factor_from : (lives before row : List ℕ) (k f : ℕ) → k ≤ 64 → RowAnswered lives before row
-    → f ≡ total naturals (drop k (take (length lives + 1) row)) → FactorAnswered lives k (length before) f
+    → f ≡ std_sum (drop k (take (length lives + 1) row)) → FactorAnswered lives k (length before) f
 factor_from lives before row k f le r e = (
   a,
   le,
@@ -88,4 +89,6 @@ factor_from lives before row k f le r e = (
     within = all_within lives r.0
 
     is : f ≡ factor_of lives k
-    is = e ∙ ap (λ zs. total naturals (drop k (take (length lives + 1) zs))) r.2 ∙ ap (λ zs. sum (drop k zs)) (front lives _ r.0)
+    is =
+        e ∙ sym (total_is_sum (drop k (take (length lives + 1) row)))
+        ∙ ap (λ zs. sum (drop k (take (length lives + 1) zs))) r.2 ∙ ap (λ zs. sum (drop k zs)) (front lives _ r.0)

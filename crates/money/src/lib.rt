@@ -58,12 +58,10 @@ fn admit(lives: &[u32]) -> Result<(), Refusal>
     if lives.len() > LIMIT {
         return Err(Refusal::TooManyLives);
     }
-    for (place, p) in lives.iter().enumerate() {
-        if *p > WHOLE {
-            return Err(Refusal::LifeAboveOne { place });
-        }
+    match lives.iter().position(|p| *p > WHOLE) {
+        Some(place) => Err(Refusal::LifeAboveOne { place }),
+        None => Ok(()),
     }
-    Ok(())
 }
 
 /// Takes one life into a row, whose last entry is new and 0.
@@ -103,18 +101,6 @@ pub fn money_row(lives: &[u32], row: &mut [u64]) -> Result<(), Refusal>
     Ok(())
 }
 
-/// The sum of the entries from `k` on, below `count`.
-fn sum_from(row: &[u64], k: usize, count: usize) -> u64
-    requires { (count ≤ length row.now) × (total naturals (take count row.now) ≤ whole) }
-    ensures { result ≡ total naturals (drop k (take count row.now)) }
-{
-    let mut sum = 0;
-    for r in k..count {
-        sum += row[r];
-    }
-    sum
-}
-
 /// Wipes the table that it holds when it is let go, whichever way that comes.
 struct Wipe<'a>(&'a mut [u64]);
 
@@ -141,5 +127,5 @@ pub fn factor(lives: &[u32], k: u32, work: &mut [u64]) -> Result<u64, Refusal>
         return Err(Refusal::CountAboveLimit);
     }
     money_row(lives, guard.0)?;
-    Ok(sum_from(guard.0, k as usize, lives.len() + 1))
+    Ok(guard.0[..lives.len() + 1].iter().skip(k as usize).sum())
 }
