@@ -5,9 +5,9 @@ use Rattle.std.proofs.lemmas.List.{append_assoc, append-nil, drop_all, drop-drop
 use Rattle.money.specs.Money.{pass, whole}
 
 -- the two products fit, where the factors are a life and what it lacks of D
-pub products_fit : (p q b x : ℕ) → q + p ≡ whole → b ≤ whole → x ≤ whole → p * b + q * x ≤ 1000000000000000000
-products_fit p q b x h hb hx =
-    omega (arith, mul-le p b p whole (omega arith) hb, mul-le q x q whole (omega arith) hx)
+pub products_fit : (p b x : ℕ) → p ≤ whole → b ≤ whole → x ≤ whole → p * b + (whole - p) * x ≤ 1000000000000000000
+products_fit p b x h hb hx =
+    omega (arith, mul-le p b p whole (omega arith) hb, mul-le (whole - p) x (whole - p) whole (omega arith) hx)
 
 module _ (p : ℕ) (row entry : List ℕ) (i b c : ℕ) (l : i < length row) (same : drop i row ≡ drop i entry) where
   -- what the pass reads is what was there
@@ -35,15 +35,10 @@ module _ (p : ℕ) (row entry : List ℕ) (i b c : ℕ) (l : i < length row) (sa
       ∙ ap (λ zs. take i row ++ pass p b c zs) (sym (drop_more row i 0 l) ∙ same)
       ∙ done
 
--- what a turn reads is at most D, and its products fit
-pub turn_fits : (p b : ℕ) (row entry : List ℕ) (i : ℕ) → p ≤ whole → b ≤ whole → i < length row → drop i row ≡ drop i entry
-    → ((k : ℕ) → get_or entry k 0 ≤ whole)
-    → (get_or row i 0 ≤ whole) × (p * b + (whole - p) * get_or row i 0 ≤ 1000000000000000000)
-turn_fits p b row entry i hp hb l same small =
-    let h : get_or row i 0 ≤ whole = omega (arith, read_same p row entry i 0 0 l same, small i) in
-    (h, products_fit p (whole - p) b (get_or row i 0) (omega arith) hb h)
+-- and is at most D, as every old entry is
+pub read_small : (row entry : List ℕ) (i : ℕ) → i < length row → drop i row ≡ drop i entry
+    → ((k : ℕ) → get_or entry k 0 ≤ whole) → get_or row i 0 ≤ whole
+read_small row entry i l same small = omega (arith, read_same 0 row entry i 0 0 l same, small i)
 
-pub done_all : (p : ℕ) (row entry : List ℕ) (i b c : ℕ) → length row ≤ i → length entry ≤ i
-    → take i row ++ pass p b c (drop i entry) ≡ pass p 0 0 entry → row ≡ pass p 0 0 entry
-done_all p row entry i b c hr he done =
-    sym (ap₂ (λ xs ys. xs ++ pass p b c ys) (take_all i row hr) (drop_all i entry he) ∙ append-nil row) ∙ done
+-- what a turn of the pass needs
+pub ruleset turns = (products_fit, read_small, rest_more, done_more)

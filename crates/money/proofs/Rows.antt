@@ -36,25 +36,25 @@ module _ (lives entry row : List ℕ) (i : ℕ) (a : Admitted lives) (l : i < le
       ∙ set_at (money_row (take i lives)) (get_or entry (i + 1) 0) (drop (i + 1 + 1) entry) 0 (i + 1) long
       ∙ sym (append_assoc (money_row (take i lives)) (0 ∷ []) (drop (i + 1 + 1) entry))
 
-  grown : length (money_row (take i lives) ++ 0 ∷ []) ≡ i + 2 - 0
+  grown : length (money_row (take i lives) ++ 0 ∷ []) ≡ i + 2
   grown = length-append (money_row (take i lives)) (0 ∷ []) ∙ omega (arith, long)
 
-  part : take (i + 2 - 0) (set row (i + 1) 0) ≡ money_row (take i lives) ++ 0 ∷ []
+  part : take (i + 2) (set row (i + 1) 0) ≡ money_row (take i lives) ++ 0 ∷ []
   part =
-      ap (take (i + 2 - 0)) cleared
-      ∙ take_at (money_row (take i lives) ++ 0 ∷ []) (drop (i + 1 + 1) entry) (i + 2 - 0) grown
+      ap (take (i + 2)) cleared
+      ∙ take_at (money_row (take i lives) ++ 0 ∷ []) (drop (i + 1 + 1) entry) (i + 2) grown
 
-  pub part_small : (k : ℕ) → get_or (take (i + 2 - 0) (set row (i + 1) 0)) k 0 ≤ whole
+  pub part_small : (k : ℕ) → get_or (take (i + 2) (set row (i + 1) 0)) k 0 ≤ whole
   part_small k =
       rw part
       (omega (arith, get_or_le_sum (money_row (take i lives) ++ 0 ∷ []) k, push_zero (money_row (take i lives)), row_sum (take i lives) within))
 
-  pub row_more : (new : List ℕ) → new ≡ pass (get_or lives i 0) 0 0 (take (i + 2 - 0) (set row (i + 1) 0))
-      → new ++ drop (i + 2 - 0) (set row (i + 1) 0) ≡ money_row (take (i + 1) lives) ++ drop (i + 1 + 1) entry
+  pub row_more : (new : List ℕ) → new ≡ pass (get_or lives i 0) 0 0 (take (i + 2) (set row (i + 1) 0))
+      → new ++ drop (i + 2) (set row (i + 1) 0) ≡ money_row (take (i + 1) lives) ++ drop (i + 1 + 1) entry
   row_more new e =
       ap₂ ◌++◌
       (e ∙ ap (pass (get_or lives i 0) 0 0) part ∙ sym (fold_more with_life (whole ∷ []) lives i 0 l))
-      (ap (drop (i + 2 - 0)) cleared ∙ drop_at (money_row (take i lives) ++ 0 ∷ []) (drop (i + 1 + 1) entry) (i + 2 - 0) grown)
+      (ap (drop (i + 2)) cleared ∙ drop_at (money_row (take i lives) ++ 0 ∷ []) (drop (i + 1 + 1) entry) (i + 2) grown)
 
 front : (lives rest : List ℕ) → Admitted lives → take (length lives + 1) (money_row lives ++ rest) ≡ money_row lives
 front lives rest a = take_at (money_row lives) rest (length lives + 1) (row_long lives (all_within lives a))
