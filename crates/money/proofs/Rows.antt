@@ -1,5 +1,5 @@
 -- What the calls of `money_row` and `factor` give, put together. Assumes nothing.
-use Rattle.std.proofs.Common.{◌≡◌, ℕ, ◌+◌, ◌-◌, ◌<◌, ◌≤◌, List, [], ◌∷◌, ◌++◌, length, get_or, take, drop, set, sym, refl, ap, ◌∙◌, ap₂, arith, length-append}
+use Rattle.std.proofs.Common.{◌≡◌, ℕ, ◌+◌, ◌<◌, ◌≤◌, List, [], ◌∷◌, ◌++◌, length, get_or, take, drop, set, sym, refl, ap, ◌∙◌, ap₂, arith, length-append}
 use Rattle.std.specs.List.{AllByRecursion, sum as std_sum}
 use Rattle.std.proofs.ByRecursion.{All-from_get_or, All-take}
 use Rattle.std.proofs.lemmas.List.{append_assoc, drop_at, drop_more, drop-set-lt, length-take-le, set_at, take_all, take_at}
