@@ -7,11 +7,10 @@ loop-init c = (refl, choose_none)
 
 pub next_binomials-requires : goal.next_binomials-requires
 next_binomials-requires c =
-    (omega arith, row_small c.loop.counter c.loop.row c.loop.invariant.0 c.loop.invariant.1 (omega arith))
+    row_small c.loop.counter c.loop.row c.loop.invariant.0 c.loop.invariant.1 (omega arith)
 
 pub loop-preserved : goal.loop-preserved
 loop-preserved c = (
   c.next_binomials.auto.row ∙ c.loop.invariant.0,
-  choose_more c.loop.counter c.loop.row c.loop.invariant.0 c.loop.invariant.1 c.next_binomials.new.row
-      c.next_binomials.ensures.first c.next_binomials.ensures.others,
+  choose_more c.loop.counter c.loop.row c.loop.invariant.0 c.loop.invariant.1 c.next_binomials.new.row c.next_binomials.ensures,
 )
