@@ -22,23 +22,18 @@ pub value_fits : (u : List ℕ) → Admitted u → (k m : ℕ) → m < length u 
 value_fits u a k m l = sfits _ (value_size u (all_small u a) k m (omega (arith, a.0.1)))
 
 -- one step of the pass
-module _ (u : List ℕ) (a : Admitted u) (m k : ℕ) (lt : m < length u) (up : 0 < k) (le : k ≤ m) (x y : ℤ)
-    (old : x ≡ value u (k - 1) (m - 1)) (new : y ≡ value u (k - 1 + 1) m) where
-  fits_x : SFits w64 x
-  fits_x = rw old (value_fits u a (k - 1) (m - 1) (omega arith))
-
-  fits_y : SFits w64 y
-  fits_y = rw new (value_fits u a (k - 1 + 1) m lt)
-
-  taken : to_z w64 (of_z w64 x) -ℤ to_z w64 (of_z w64 y) ≡ value u (k - 1) m
+module _ (u : List ℕ) (a : Admitted u) (m k : ℕ) (lt : m < length u) (le : k < m) (x y : ℤ)
+    (old : x ≡ value u k (m - 1)) (new : y ≡ value u (k + 1) m) where
+  taken : to_z w64 (of_z w64 x) -ℤ to_z w64 (of_z w64 y) ≡ value u k m
   taken =
-      ap₂ ◌-ℤ◌ (to_z-of_z w64 x fits_x ∙ old) (to_z-of_z w64 y fits_y ∙ new)
-      ∙ sym (value_step u (k - 1) m (omega arith))
+      ap₂ ◌-ℤ◌ (to_z-of_z w64 x (rw old (value_fits u a k (m - 1) (omega arith))) ∙ old)
+      (to_z-of_z w64 y (rw new (value_fits u a (k + 1) m lt)) ∙ new)
+      ∙ sym (value_step u k m le)
 
   pub taken_fits : SFits w64 (to_z w64 (of_z w64 x) -ℤ to_z w64 (of_z w64 y))
-  taken_fits = rw taken (value_fits u a (k - 1) m lt)
+  taken_fits = rw taken (value_fits u a k m lt)
 
-  pub taken_back : to_z w64 (of_z w64 (to_z w64 (of_z w64 x) -ℤ to_z w64 (of_z w64 y))) ≡ value u (k - 1) m
+  pub taken_back : to_z w64 (of_z w64 (to_z w64 (of_z w64 x) -ℤ to_z w64 (of_z w64 y))) ≡ value u k m
   taken_back = to_z-of_z w64 _ taken_fits ∙ taken
 
 -- C(n, k) is at most 2^n
@@ -54,21 +49,3 @@ choose_small n k h = omega (arith, choose_size n k, pow_mono {i = n} {j = 32} h)
 pub choose_none : (k : ℕ) → k < 33 → get_or (1 ∷ replicate 32 0) k 0 ≡ choose 0 k
 choose_none zero h = refl
 choose_none (suc k) h = get_or-replicate 32 k 0 0 (omega arith)
-
-module _ (i : ℕ) (old : List ℕ) (long : length old ≡ 33) (is : (k : ℕ) → k < 33 → get_or old k 0 ≡ choose i k) where
-  pub row_small : i ≤ 32 → (k : ℕ) → get_or old k 0 ≤ 2 ^ 32
-  row_small le k =
-      let at : (k < 33) ⊎ (33 ≤ k) → get_or old k 0 ≤ 2 ^ 32 = λ o.
-      elim o [
-        | inl l ↦ omega (arith, is k l, choose_small i k le)
-        | inr l ↦ omega (arith, get_or_past old k 0 (omega arith))
-      ] in
-      at (cases_lt k 33)
-
-  pub choose_more : (new : List ℕ)
-      → ((k : ℕ) → k < length old → get_or new k 0 ≡ get_or (0 ∷ old) k 0 + get_or old k 0)
-      → (k : ℕ) → k < 33 → get_or new k 0 ≡ choose (i + 1) k
-  choose_more new next zero h = omega (arith, next 0 (omega arith), is 0 h)
-  choose_more new next (suc k) h =
-      let q : i + 1 ≡ suc i = omega arith in
-      rw q (next (suc k) (omega arith) ∙ ap₂ ◌+◌ (is k (omega arith)) (is (suc k) h))

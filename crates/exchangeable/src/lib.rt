@@ -115,7 +115,7 @@ impl<'a> Table<'a> {
 
 /// From a row of Pascal's triangle to the next: each entry takes on the one before it.
 fn next_binomials(row: &mut [u64])
-    requires { (k : ℕ) → slice_index row.old k ≤ 2 ^ 32 }
+    requires { (k : ℕ) → k < length row.old → slice_index row.old k ≤ 2 ^ 32 }
     ensures { (k : ℕ) → k < length row.old
         → slice_index row.new k ≡ slice_index (0 ∷ row.old) k + slice_index row.old k }
 {

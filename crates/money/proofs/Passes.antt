@@ -1,7 +1,8 @@
 -- One pass over a row, in place. Assumes nothing.
-use Rattle.std.proofs.Common.{◌≡◌, ℕ, ◌+◌, ◌-◌, ◌*◌, ◌/◌, ◌%◌, ◌<◌, ◌≤◌, List, [], ◌∷◌, ◌++◌, length, get_or, take, drop, set, sym, ap, ◌∙◌, arith}
+use Rattle.std.proofs.Common.{◌≡◌, ℕ, ◌+◌, ◌-◌, ◌*◌, ◌/◌, ◌%◌, ◌<◌, ◌≤◌, List, [], ◌∷◌, ◌++◌, length, get_or, take, drop, set, sym, ap, ◌∙◌, add-zero, arith}
+use Rattle.std.proofs.lemmas.Grind.{drop_more_same}
 use Rattle.std.proofs.lemmas.Nat.{mul-le}
-use Rattle.std.proofs.lemmas.List.{append_assoc, drop-drop, drop_more, drop-set-lt, get_or-drop, take_more_set}
+use Rattle.std.proofs.lemmas.List.{append_assoc, drop_more, drop-set-lt, get_or-drop, take_more_set}
 use Rattle.money.specs.Money.{pass, whole}
 
 -- the two products fit, where the factors are a life and what it lacks of D
@@ -11,14 +12,11 @@ products_fit p b x h hb hx =
 
 module _ (p : ℕ) (row entry : List ℕ) (i b c : ℕ) (l : i < length row) (same : drop i row ≡ drop i entry) where
   -- what the pass reads is what was there
-  pub read_same : get_or row i 0 ≡ get_or entry i 0
-  read_same =
-      let e : i + 0 ≡ i = omega arith in
-      ap (λ k. get_or row k 0) (sym e) ∙ sym (get_or-drop i row 0 0) ∙ ap (λ zs. get_or zs 0 0) same ∙ get_or-drop i entry 0 0
-      ∙ ap (λ k. get_or entry k 0) e
+  read_same : get_or row i 0 ≡ get_or entry i 0
+  read_same = simp (get_or-drop, add-zero) at (ap (λ zs. get_or zs 0 0) same)
 
   rest_same : drop (i + 1) row ≡ drop (i + 1) entry
-  rest_same = sym (drop-drop 1 i row) ∙ ap (drop 1) same ∙ drop-drop 1 i entry
+  rest_same = drop_more_same row entry i same
 
   pub rest_more : (v : ℕ) → drop (i + 1) (set row i v) ≡ drop (i + 1) entry
   rest_more v = drop-set-lt (i + 1) row i v (omega arith) ∙ rest_same
@@ -35,7 +33,7 @@ module _ (p : ℕ) (row entry : List ℕ) (i b c : ℕ) (l : i < length row) (sa
       ∙ ap (λ zs. take i row ++ pass p b c zs) (sym (drop_more row i 0 l) ∙ same)
       ∙ done
 
--- and is at most D, as every old entry is
+-- what a turn reads is at most D, as every old entry is
 pub read_small : (row entry : List ℕ) (i : ℕ) → i < length row → drop i row ≡ drop i entry
     → ((k : ℕ) → get_or entry k 0 ≤ whole) → get_or row i 0 ≤ whole
 read_small row entry i l same small = omega (arith, read_same 0 row entry i 0 0 l same, small i)

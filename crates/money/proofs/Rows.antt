@@ -3,7 +3,7 @@ use Rattle.std.proofs.Common.{◌≡◌, ℕ, ◌+◌, ◌<◌, ◌≤◌, List,
 use Rattle.std.specs.List.{AllByRecursion, sum as std_sum}
 use Rattle.std.proofs.ByRecursion.{All-from_get_or, All-take}
 use Rattle.std.proofs.lemmas.List.{append_assoc, drop_at, drop_more, drop-set-lt, length-take-le, set_at, take_all, take_at}
-use Rattle.std.proofs.lemmas.List.Sums.{fold_more}
+use Rattle.std.proofs.lemmas.List.Sums.{fold_more, sum_by_push}
 use Rattle.algebra.specs.Patterns.{naturals, total}
 use Rattle.money.specs.Answer.{Admitted, FactorAnswered, RowAnswered}
 use Rattle.money.specs.Money.{whole, pass, with_life, money_row, factor_of}
@@ -12,10 +12,6 @@ use Rattle.money.proofs.Rounding.{sum, get_or_le_sum, row_long, row_sum, near_al
 
 all_within : (lives : List ℕ) → Admitted lives → AllByRecursion (λ p. p ≤ whole) lives
 all_within lives a = All-from_get_or (λ p. p ≤ whole) lives 0 a.1
-
-push_zero : (xs : List ℕ) → sum (xs ++ 0 ∷ []) ≡ sum xs
-push_zero [] = refl
-push_zero (x ∷ xs) = ap (λ s. x + s) (push_zero xs)
 
 pub starts : (xs : List ℕ) (v : ℕ) → 0 < length xs → set xs 0 v ≡ v ∷ drop 1 (set xs 0 v)
 starts [] v h = absurd (omega arith)
@@ -47,7 +43,7 @@ module _ (lives entry row : List ℕ) (i : ℕ) (a : Admitted lives) (l : i < le
   pub part_small : (k : ℕ) → get_or (take (i + 2) (set row (i + 1) 0)) k 0 ≤ whole
   part_small k =
       rw part
-      (omega (arith, get_or_le_sum (money_row (take i lives) ++ 0 ∷ []) k, push_zero (money_row (take i lives)), row_sum (take i lives) within))
+      (omega (arith, get_or_le_sum (money_row (take i lives) ++ 0 ∷ []) k, total_is_sum (money_row (take i lives) ++ 0 ∷ []), sum_by_push (λ (x : ℕ). x) (money_row (take i lives)) 0, total_is_sum (money_row (take i lives)), row_sum (take i lives) within))
 
   pub row_more : (new : List ℕ) → new ≡ pass (get_or lives i 0) 0 0 (take (i + 2) (set row (i + 1) 0))
       → new ++ drop (i + 2) (set row (i + 1) 0) ≡ money_row (take (i + 1) lives) ++ drop (i + 1 + 1) entry
