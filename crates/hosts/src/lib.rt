@@ -1,7 +1,7 @@
 //! The money calls and the exchangeable row as C wants them: one struct says what came of a call. crates/hosts_c exports them.
 #![tactic(auto)]
 
-ghost use Rattle.std.specs.Prelude.{◌≡◌, length, replicate, Err};
+ghost use Rattle.std.specs.Prelude.{◌≡◌, length, replicate, Err, unwrap_or};
 ghost use Rattle.exchangeable.specs.Answer.{Answered, Refused as RowRefused};
 ghost use Rattle.hosts.specs.Outcomes.{Made, of_factor, of_money_row, of_table_row};
 ghost use Rattle.money.specs.Answer.{FactorAnswered, Refused as MoneyRefused, RowAnswered};
@@ -28,17 +28,24 @@ impl Outcome {
         place: 0,
         factor: 0,
     };
+
+    /// A call that is refused.
+    fn refused(refusal: u32, place: Option<usize>) -> Outcome
+        ensures { result ≡ record { refusal = refusal; place = unwrap_or place 0; factor = 0 } }
+    {
+        Outcome {
+            refusal,
+            place: place.unwrap_or(0) as u64,
+            factor: 0,
+        }
+    }
 }
 
 impl From<MoneyRefusal> for Outcome {
     ghost from_gives = { λ e o. o ≡ of_factor (Err e) };
 
     fn from(refusal: MoneyRefusal) -> Outcome {
-        Outcome {
-            refusal: refusal.number(),
-            place: refusal.place().unwrap_or(0) as u64,
-            ..Outcome::DONE
-        }
+        Outcome::refused(refusal.number(), refusal.place())
     }
 }
 
@@ -46,11 +53,7 @@ impl From<TableRefusal> for Outcome {
     ghost from_gives = { λ e o. o ≡ of_table_row (Err e) };
 
     fn from(refusal: TableRefusal) -> Outcome {
-        Outcome {
-            refusal: refusal.number(),
-            place: refusal.place().unwrap_or(0) as u64,
-            ..Outcome::DONE
-        }
+        Outcome::refused(refusal.number(), refusal.place())
     }
 }
 
