@@ -28,10 +28,6 @@ alternating f (suc t) k =
 pub value_is : (u : List ℕ) (k m : ℕ) → value u k m ≡ diff (at u) (m - k) k
 value_is u k m = alternating (at u) (m - k) k
 
--- V(m, m) is u_m
-pub value_last : (u : List ℕ) (m : ℕ) → value u m m ≡ pos (get_or u m 0)
-value_last u m = value_is u m m ∙ ap (λ t. diff (at u) t m) (let e : m - m ≡ 0 = omega arith in e)
-
 -- V(k, m) is V(k, m − 1) − V(k + 1, m)
 pub value_step : (u : List ℕ) (k m : ℕ) → k < m → value u k m ≡ value u k (m - 1) -ℤ value u (k + 1) m
 value_step u k m h =

@@ -1,40 +1,40 @@
 -- What the calls of `exchangeable_row` give, put together. Assumes nothing.
-use Rattle.std.proofs.Common.{◌≡◌, ℕ, suc, ◌+◌, ◌-◌, ◌^◌, ◌<◌, ◌≤◌, List, map, length, get_or, take, ℤ, pos, ◌*ℤ◌, nat_abs, ◌≤ℤ◌, ◌<ℤ◌, ap, ◌∙◌, arith, length-take}
+use Rattle.std.proofs.Common.{◌≡◌, ℕ, suc, ◌+◌, ◌-◌, ◌^◌, ◌<◌, ◌≤◌, List, map, ◌++◌, length, get_or, take, drop, ℤ, pos, ◌*ℤ◌, nat_abs, ◌≤ℤ◌, ◌<ℤ◌, ap, ap₂, ◌∙◌, arith}
 use lib.ListN.{length-map}
 use Rattle.std.proofs.lemmas.List.FromFn.{fill_by_all}
-use Rattle.std.proofs.lemmas.List.{get_or-map, get_or-take, length-take-le}
+use Rattle.std.proofs.lemmas.List.{drop_at, get_or-map, get_or-take, length-take-le, take_at}
 use Rattle.std.proofs.lemmas.Int.{ints}
 use Rattle.algebra.specs.Binomial.{choose}
 use Rattle.exchangeable.specs.Answer.{Admitted, Refused}
 use Rattle.exchangeable.specs.Events.{value, row, top}
 use Rattle.exchangeable.specs.declared.Refusal.TheVariants.{Impossible}
-use Rattle.exchangeable.proofs.Columns.{all_small}
+use Rattle.exchangeable.proofs.Columns.{all_small, choose_small}
 use Rattle.exchangeable.proofs.Differences.{at, diff, value_is, diff_nonneg, diff_falls, events_nonneg}
 
-module _ (u : List ℕ) (ws : List ℤ) (long : length u ≤ length ws)
-    (is : (k : ℕ) → k < length u → get_or ws k (pos 0) ≡ value u k (length u - 1)) where
-  read : (k : ℕ) → k < length u → get_or (take (length u - 0) ws) k (pos 0) ≡ value u k (top u)
-  read k l = get_or-take (length u - 0) ws k (pos 0) (omega arith) ∙ is k l
+module _ (u : List ℕ) (ws : List ℤ) (n : ℕ) (last : n ≡ top u) (long : n < length ws)
+    (is : (k : ℕ) → k < n + 1 → get_or ws k (pos 0) ≡ value u k n) where
+  read : (k : ℕ) → k ≤ top u → get_or (take (n + 1) ws) k (pos 0) ≡ value u k (top u)
+  read k l = get_or-take (n + 1) ws k (pos 0) (omega arith) ∙ is k (omega arith) ∙ ap (value u k) last
 
-  front : length (take (length u - 0) ws) ≡ length u
-  front = length-take (length u - 0) ws ∙ omega arith
+  front : length (take (n + 1) ws) ≡ n + 1
+  front = length-take-le (n + 1) ws (omega arith)
 
-  pub none_below : ((k : ℕ) → k < length (take (length u - 0) ws) → pos 0 ≤ℤ get_or (take (length u - 0) ws) k (pos 0))
-      → 0 < length u → (k : ℕ) → k ≤ top u → pos 0 ≤ℤ value u k (top u)
-  none_below h some k le = rw (read k (omega arith)) at (h k (omega (arith, front)))
+  pub none_below : ((k : ℕ) → k < length (take (n + 1) ws) → pos 0 ≤ℤ get_or (take (n + 1) ws) k (pos 0))
+      → (k : ℕ) → k ≤ top u → pos 0 ≤ℤ value u k (top u)
+  none_below h k le = rw (read k le) at (h k (omega (arith, front)))
 
   pub some_below : (m : ℕ) (out : List ℕ) (p : ℕ) → Admitted u → m ≤ top u → m + 1 ≤ length out
-      → (p < length (take (length u - 0) ws)) × (get_or (take (length u - 0) ws) p (pos 0) <ℤ pos 0)
-      × ((i : ℕ) → i < p → pos 0 ≤ℤ get_or (take (length u - 0) ws) i (pos 0))
+      → (p < length (take (n + 1) ws)) × (get_or (take (n + 1) ws) p (pos 0) <ℤ pos 0)
+      × ((i : ℕ) → i < p → pos 0 ≤ℤ get_or (take (n + 1) ws) i (pos 0))
       → Refused u m out (Impossible p)
   some_below m out p a le fits h =
-      let l : p < length u = omega (arith, front, h.0) in
+      let l : p ≤ top u = omega (arith, front, h.0) in
       let neg : value u p (top u) <ℤ pos 0 = rw (read p l) at h.1 in (
         a,
         le,
         fits,
-        (λ e. apart (value u p (top u)) neg (events_nonneg u e p (omega arith))),
-        omega arith,
+        (λ e. apart (value u p (top u)) neg (events_nonneg u e p l)),
+        l,
         neg,
         λ i q. rw (read i (omega arith)) at (h.2 i q),
       )
@@ -57,15 +57,32 @@ module _ (u : List ℕ) (a : Admitted u) (last : (k : ℕ) → k ≤ top u → p
       below : (z : ℤ) (b : ℕ) → z ≤ℤ pos b → b ≤ 2 ^ 30 → z ≤ℤ pos (2 ^ 30)
       below z b p q = omega (arith, ints)
 
-pub row_from : (u : List ℕ) (m : ℕ) (after : List ℕ) → m + 1 ≤ length after
-    → ((k : ℕ) → k < m + 1 → pos (get_or after k 0) ≡ pos (choose m k) *ℤ value u k m)
-    → map pos (take (m + 1) after) ≡ row u m
-row_from u m after le h =
-    fill_by_all (λ k. pos (choose m k) *ℤ value u k m) (map pos (take (m + 1) after)) (suc m) (pos 0)
-    (length-map (take (m + 1) after) pos ∙ long ∙ omega arith)
-    (λ k l.
-    get_or-map pos (take (m + 1) after) k 0 (pos 0) (omega (arith, long))
-    ∙ ap pos (get_or-take (m + 1) after k 0 (omega arith)) ∙ h k (omega arith))
-  where
-    long : length (take (m + 1) after) ≡ m + 1
-    long = length-take-le (m + 1) after le
+-- the factors and values of the row for m, read at the front of their arrays
+module _ (u : List ℕ) (m : ℕ) (fs : List ℕ) (vs : List ℤ) (small : m < 33)
+    (factors : (k : ℕ) → k < 33 → get_or fs k 0 ≡ choose m k)
+    (values : (k : ℕ) → k < m + 1 → get_or vs k (pos 0) ≡ value u k m) where
+  factor : (k : ℕ) → k < m + 1 → get_or (take (m + 1) fs) k 0 ≡ choose m k
+  factor k l = get_or-take (m + 1) fs k 0 l ∙ factors k (omega arith)
+
+  worth : (k : ℕ) → k < m + 1 → get_or (take (m + 1) vs) k (pos 0) ≡ value u k m
+  worth k l = get_or-take (m + 1) vs k (pos 0) l ∙ values k l
+
+  pub sizes : Admitted u → m ≤ top u → ((k : ℕ) → k ≤ top u → pos 0 ≤ℤ value u k (top u)) → (k : ℕ) → k < m + 1
+      → (get_or (take (m + 1) fs) k 0 ≤ 2 ^ 32)
+      × (pos 0 ≤ℤ get_or (take (m + 1) vs) k (pos 0)) × (get_or (take (m + 1) vs) k (pos 0) ≤ℤ pos (2 ^ 30))
+  sizes a le last k l =
+      rw (factor k l, worth k l)
+      (choose_small m k (omega arith), value_nonneg u a last k m (omega arith) le, value_small u a last k m (omega arith) le)
+
+  pub row_from : (after rest : List ℕ) → length after ≡ m + 1
+      → ((k : ℕ) → k < m + 1 → pos (get_or after k 0) ≡ pos (get_or (take (m + 1) fs) k 0) *ℤ get_or (take (m + 1) vs) k (pos 0))
+      → (map pos (take (m + 1) (after ++ rest)) ≡ row u m) × (drop (m + 1) (after ++ rest) ≡ rest)
+  row_from after rest long h = (
+    ap (map pos) (take_at after rest (m + 1) long)
+        ∙ fill_by_all (λ k. pos (choose m k) *ℤ value u k m) (map pos after) (suc m) (pos 0)
+        (length-map after pos ∙ long ∙ omega arith)
+        (λ k l.
+        get_or-map pos after k 0 (pos 0) (omega arith)
+        ∙ h k (omega arith) ∙ ap₂ ◌*ℤ◌ (ap pos (factor k (omega arith))) (worth k (omega arith))),
+    drop_at after rest (m + 1) long,
+  )

@@ -1,10 +1,10 @@
 //! Rows of exchangeable events, from a table of the weights that chosen events all occur.
 #![tactic(auto)]
 
-ghost use Rattle.std.specs.Prelude.{◌≡◌, ℕ, ◌+◌, ◌-◌, ◌^◌, ◌<◌, ◌≤◌, List, length, drop, pos, ◌*ℤ◌, ◌≤ℤ◌, ◌<ℤ◌, MatchOption, MatchResult, slice_index, slice_index_or};
+ghost use Rattle.std.specs.Prelude.{◌≡◌, ℕ, ◌+◌, ◌-◌, ◌^◌, ◌<◌, ◌≤◌, List, ◌∷◌, length, drop, pos, ◌*ℤ◌, ◌≤ℤ◌, ◌<ℤ◌, MatchOption, MatchResult, slice_index, slice_index_or};
 ghost use Rattle.algebra.specs.Binomial.{choose};
 ghost use Rattle.exchangeable.specs.Answer.{Admitted, Answered, Refused, number, place};
-ghost use Rattle.exchangeable.specs.Events.{value};
+ghost use Rattle.exchangeable.specs.Events.{value, top};
 
 /// The most coefficients that a table has.
 const LENGTH: usize = 33;
@@ -52,74 +52,78 @@ impl Refusal {
     }
 }
 
-/// Refuses a table that is outside the limits.
-fn admit(table: &[u32]) -> Result<(), Refusal>
-    ensures { MatchResult result
-        (λ _. Admitted table.now)
-        (λ e. (m : ℕ) (out : List ℕ) → Refused table.now m out e) }
-{
-    if table.is_empty() || table.len() > LENGTH {
-        return Err(Refusal::TableLength);
-    }
-    if table[0] == 0 {
-        return Err(Refusal::Coefficient { place: 0 });
-    }
-    for (place, u) in table.iter().enumerate() {
-        if *u > LIMIT {
-            return Err(Refusal::Coefficient { place });
+/// A table within the limits.
+#[derive(Drop)]
+struct Table<'a> {
+    coefficients: &'a [u32],
+    ghost admitted: { Admitted coefficients.now },
+}
+
+impl<'a> Table<'a> {
+    /// Refuses coefficients that are outside the limits.
+    fn admit(coefficients: &'a [u32]) -> Result<Table<'a>, Refusal>
+        ensures { MatchResult result
+            (λ t. t.coefficients.now ≡ coefficients.now)
+            (λ e. (m : ℕ) (out : List ℕ) → Refused coefficients.now m out e) }
+    {
+        if coefficients.is_empty() || coefficients.len() > LENGTH {
+            return Err(Refusal::TableLength);
+        }
+        if coefficients[0] == 0 {
+            return Err(Refusal::Coefficient { place: 0 });
+        }
+        match coefficients.iter().position(|u| *u > LIMIT) {
+            Some(place) => Err(Refusal::Coefficient { place }),
+            None => Ok(Table { coefficients }),
         }
     }
-    Ok(())
-}
 
-/// From V(k, m − 1) for each k below m to V(k, m) for each k up to m, in place.
-fn extend(values: &mut [i64], table: &[u32], m: usize)
-    requires within { (Admitted table.now) × ((m < length table.now) × (m < length values.old)) }
-    requires before { (k : ℕ) → k < m → slice_index_or values.old k (pos 0) ≡ value table.now k (m - 1) }
-    ensures { (k : ℕ) → k < m + 1 → slice_index_or values.new k (pos 0) ≡ value table.now k m }
-{
-    values[m] = table[m] as i64;
-    for k in (0..m).rev() {
-        values[k] -= values[k + 1];
+    /// The number of events.
+    fn top(&self) -> usize
+        ensures { result ≡ top self.now.coefficients.now }
+    {
+        self.coefficients.len() - 1
     }
-}
 
-/// V(k, count − 1) at each place k below `count`.
-fn column(table: &[u32], count: usize) -> [i64; LENGTH]
-    requires { (Admitted table.now) × (count ≤ length table.now) }
-    ensures { (k : ℕ) → k < count → slice_index_or result k (pos 0) ≡ value table.now k (count - 1) }
-{
-    let mut values = [0; LENGTH];
-    for m in 0..count {
-        extend(&mut values, table, m);
-    }
-    values
-}
-
-/// The first place with a number below zero.
-fn first_negative(weights: &[i64]) -> Option<usize>
-    ensures { MatchOption result
-        ((k : ℕ) → k < length weights.now → pos 0 ≤ℤ slice_index_or weights.now k (pos 0))
-        (λ p. (p < length weights.now) × (slice_index_or weights.now p (pos 0) <ℤ pos 0)
-        × ((i : ℕ) → i < p → pos 0 ≤ℤ slice_index_or weights.now i (pos 0))) }
-{
-    for (place, w) in weights.iter().enumerate() {
-        if *w < 0 {
-            return Some(place);
+    /// From V(k, m − 1) for each k below m to V(k, m) for each k up to m, in place.
+    fn extend(&self, values: &mut [i64], m: usize)
+        requires within { (m ≤ top self.now.coefficients.now) × (m < length values.old) }
+        requires before { (k : ℕ) → k < m
+            → slice_index_or values.old k (pos 0) ≡ value self.now.coefficients.now k (m - 1) }
+        ensures { (k : ℕ) → k < m + 1
+            → slice_index_or values.new k (pos 0) ≡ value self.now.coefficients.now k m }
+    {
+        values[m] = self.coefficients[m] as i64;
+        // By index: a proof knows nothing of what is written through a reversed iterator.
+        for k in (0..m).rev() {
+            values[k] -= values[k + 1];
         }
     }
-    None
+
+    /// V(k, m) at each place k up to m.
+    fn column(&self, m: usize) -> [i64; LENGTH]
+        requires { m ≤ top self.now.coefficients.now }
+        ensures { (k : ℕ) → k < m + 1 → slice_index_or result k (pos 0) ≡ value self.now.coefficients.now k m }
+    {
+        let mut values = [0; LENGTH];
+        for i in 0..m + 1 {
+            self.extend(&mut values, i);
+        }
+        values
+    }
 }
 
 /// From a row of Pascal's triangle to the next: each entry takes on the one before it.
 fn next_binomials(row: &mut [u64])
-    requires { (0 < length row.old) × (((k : ℕ) → slice_index row.old k ≤ 2 ^ 32)) }
-    ensures first { slice_index row.new 0 ≡ slice_index row.old 0 }
-    ensures others { (k : ℕ) → k + 1 < length row.old
-        → slice_index row.new (k + 1) ≡ slice_index row.old k + slice_index row.old (k + 1) }
+    requires { (k : ℕ) → k < length row.old → slice_index row.old k ≤ 2 ^ 32 }
+    ensures { (k : ℕ) → k < length row.old
+        → slice_index row.new k ≡ slice_index (0 ∷ row.old) k + slice_index row.old k }
 {
-    for k in (1..row.len()).rev() {
-        row[k] += row[k - 1];
+    let mut before = 0;
+    for entry in row.iter_mut() {
+        let old = *entry;
+        *entry = before + old;
+        before = old;
     }
 }
 
@@ -136,17 +140,16 @@ fn binomials(m: usize) -> [u64; LENGTH]
     row
 }
 
-/// Writes the products of the first `count` factors and values.
-fn multiply(out: &mut [u64], factors: &[u64], values: &[i64], count: usize)
-    requires lengths { (count ≤ length out.old) × ((count ≤ length factors.now) × (count ≤ length values.now)) }
-    requires sizes { (k : ℕ) → k < count → (slice_index factors.now k ≤ 2 ^ 32)
+/// Writes the products of the factors and values.
+fn multiply(out: &mut [u64], factors: &[u64], values: &[i64])
+    requires lengths { (length factors.now ≡ length out.old) × (length values.now ≡ length out.old) }
+    requires sizes { (k : ℕ) → k < length out.old → (slice_index factors.now k ≤ 2 ^ 32)
         × (pos 0 ≤ℤ slice_index_or values.now k (pos 0)) × (slice_index_or values.now k (pos 0) ≤ℤ pos (2 ^ 30)) }
-    ensures products { (k : ℕ) → k < count
+    ensures { (k : ℕ) → k < length out.old
         → pos (slice_index out.new k) ≡ pos (slice_index factors.now k) *ℤ slice_index_or values.now k (pos 0) }
-    ensures others { drop count out.new ≡ drop count out.old }
 {
-    for k in 0..count {
-        out[k] = factors[k] * values[k] as u64;
+    for (k, entry) in out.iter_mut().enumerate() {
+        *entry = factors[k] * values[k] as u64;
     }
 }
 
@@ -156,18 +159,24 @@ pub fn exchangeable_row(table: &[u32], m: u32, out: &mut [u64]) -> Result<(), Re
         (λ _. Answered table.now m out.old out.new)
         (λ e. Refused table.now m out.old e × (out.new ≡ out.old)) }
 {
-    admit(table)?;
-    let count = m as usize + 1;
-    if count > table.len() {
+    let table = Table::admit(table)?;
+    let top = table.top();
+    let m = m as usize;
+    if m > top {
         return Err(Refusal::RowAboveTable);
     }
-    if count > out.len() {
+    if m >= out.len() {
         return Err(Refusal::ShortOutput);
     }
-    let weights = column(table, table.len());
-    if let Some(place) = first_negative(&weights[0..table.len()]) {
+    let weights = table.column(top);
+    if let Some(place) = weights[..top + 1].iter().position(|w| *w < 0) {
         return Err(Refusal::Impossible { place });
     }
-    multiply(out, &binomials(m as usize), &column(table, count), count);
+    let count = m + 1;
+    multiply(
+        &mut out[..count],
+        &binomials(m)[..count],
+        &table.column(m)[..count],
+    );
     Ok(())
 }

@@ -1,26 +1,17 @@
 -- A library call's result as the struct that C gets. Assumes nothing.
-use Rattle.std.specs.Prelude.{◌≡◌, ℕ, Ok, Err, Result, MatchResult}
+use Rattle.std.specs.Prelude.{◌≡◌, ℕ, Ok, Err, Result, MatchResult, unwrap_or}
 use Rattle.hosts.specs.declared.Outcome.{Outcome}
-use Rattle.money.specs.Answer.{number as money_number}
+use Rattle.money.specs.Answer.{number as money_number, place as place_of_money}
 use Rattle.money.specs.declared.Refusal.{Refusal as MoneyRefusal}
-use Rattle.money.specs.declared.Refusal.TheVariants.{TooManyLives, LifeAboveOne, CountAboveLimit, ShortTable}
-use Rattle.exchangeable.specs.Answer.{number as table_number}
+use Rattle.exchangeable.specs.Answer.{number as table_number, place as place_of_table}
 use Rattle.exchangeable.specs.declared.Refusal.{Refusal as TableRefusal}
-use Rattle.exchangeable.specs.declared.Refusal.TheVariants.{TableLength, Coefficient, RowAboveTable, ShortOutput, Impossible}
 
 -- The place that a refusal names; 0 where it names none.
 abbrev pub money_place : MoneyRefusal → ℕ
-money_place TooManyLives = 0
-money_place (LifeAboveOne place) = place
-money_place CountAboveLimit = 0
-money_place ShortTable = 0
+money_place e = unwrap_or (place_of_money e) 0
 
 abbrev pub table_place : TableRefusal → ℕ
-table_place TableLength = 0
-table_place (Coefficient place) = place
-table_place RowAboveTable = 0
-table_place ShortOutput = 0
-table_place (Impossible place) = place
+table_place e = unwrap_or (place_of_table e) 0
 
 -- A row that was answered stands in the caller's table: the struct is all zeros.
 abbrev pub of_money_row : Result (Unit {0}) MoneyRefusal → Outcome

@@ -1,7 +1,7 @@
 //! The money calls and the exchangeable row as C wants them: one struct says what came of a call. crates/hosts_c exports them.
 #![tactic(auto)]
 
-ghost use Rattle.std.specs.Prelude.{◌≡◌, length, replicate, Err};
+ghost use Rattle.std.specs.Prelude.{◌≡◌, length, replicate, Err, unwrap_or};
 ghost use Rattle.exchangeable.specs.Answer.{Answered, Refused as RowRefused};
 ghost use Rattle.hosts.specs.Outcomes.{Made, of_factor, of_money_row, of_table_row};
 ghost use Rattle.money.specs.Answer.{FactorAnswered, Refused as MoneyRefused, RowAnswered};
@@ -29,59 +29,31 @@ impl Outcome {
         factor: 0,
     };
 
-    fn of_factor(res: Result<u64, MoneyRefusal>) -> Outcome
-        ensures { result ≡ of_factor res }
+    /// A call that is refused.
+    fn refused(refusal: u32, place: Option<usize>) -> Outcome
+        ensures { result ≡ record { refusal = refusal; place = unwrap_or place 0; factor = 0 } }
     {
-        match res {
-            Ok(factor) => Outcome {
-                factor,
-                ..Outcome::DONE
-            },
-            Err(refusal) => Outcome::of_money_refusal(refusal),
-        }
-    }
-
-    fn of_money_row(res: Result<(), MoneyRefusal>) -> Outcome
-        ensures { result ≡ of_money_row res }
-    {
-        match res {
-            Ok(()) => Outcome::DONE,
-            Err(refusal) => Outcome::of_money_refusal(refusal),
-        }
-    }
-
-    fn of_money_refusal(refusal: MoneyRefusal) -> Outcome
-        ensures { result ≡ of_factor (Err refusal) }
-    {
-        let place = match refusal {
-            MoneyRefusal::LifeAboveOne { place } => place as u64,
-            MoneyRefusal::TooManyLives | MoneyRefusal::CountAboveLimit | MoneyRefusal::ShortTable =>
-                0,
-        };
         Outcome {
-            refusal: refusal.number(),
-            place,
+            refusal,
+            place: place.unwrap_or(0) as u64,
             factor: 0,
         }
     }
+}
 
-    fn of_table_row(res: Result<(), TableRefusal>) -> Outcome
-        ensures { result ≡ of_table_row res }
-    {
-        let Err(refusal) = res else {
-            return Outcome::DONE;
-        };
-        let place = match refusal {
-            TableRefusal::Coefficient { place } | TableRefusal::Impossible { place } =>
-                place as u64,
-            TableRefusal::TableLength | TableRefusal::RowAboveTable | TableRefusal::ShortOutput =>
-                0,
-        };
-        Outcome {
-            refusal: refusal.number(),
-            place,
-            factor: 0,
-        }
+impl From<MoneyRefusal> for Outcome {
+    ghost from_gives = { λ e o. o ≡ of_factor (Err e) };
+
+    fn from(refusal: MoneyRefusal) -> Outcome {
+        Outcome::refused(refusal.number(), refusal.place())
+    }
+}
+
+impl From<TableRefusal> for Outcome {
+    ghost from_gives = { λ e o. o ≡ of_table_row (Err e) };
+
+    fn from(refusal: TableRefusal) -> Outcome {
+        Outcome::refused(refusal.number(), refusal.place())
     }
 }
 
@@ -91,7 +63,10 @@ pub fn survivorship_money_row(lives: &[u32], row: &mut [u64]) -> Outcome
         (λ _. RowAnswered lives.now row.old row.new)
         (λ e. MoneyRefused lives.now 0 (length row.old) e × (row.new ≡ row.old)) result }
 {
-    Outcome::of_money_row(money_row(lives, row))
+    match money_row(lives, row) {
+        Ok(()) => Outcome::DONE,
+        Err(refusal) => refusal.into(),
+    }
 }
 
 /// The factor of the lives for `k`, worked in `work`, which is all zeros afterwards.
@@ -101,7 +76,13 @@ pub fn survivorship_factor(lives: &[u32], k: u32, work: &mut [u64]) -> Outcome
         (MoneyRefused lives.now k (length work.old)) result }
     ensures wiped { work.new ≡ replicate (length work.old) 0 }
 {
-    Outcome::of_factor(factor(lives, k, work))
+    match factor(lives, k, work) {
+        Ok(factor) => Outcome {
+            factor,
+            ..Outcome::DONE
+        },
+        Err(refusal) => refusal.into(),
+    }
 }
 
 /// The row for m of a table of exchangeable events, written into `out`.
@@ -110,5 +91,8 @@ pub fn survivorship_exchangeable_row(table: &[u32], m: u32, out: &mut [u64]) -> 
         (λ _. Answered table.now m out.old out.new)
         (λ e. RowRefused table.now m out.old e × (out.new ≡ out.old)) result }
 {
-    Outcome::of_table_row(exchangeable_row(table, m, out))
+    match exchangeable_row(table, m, out) {
+        Ok(()) => Outcome::DONE,
+        Err(refusal) => refusal.into(),
+    }
 }

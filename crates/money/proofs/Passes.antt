@@ -1,24 +1,22 @@
 -- One pass over a row, in place. Assumes nothing.
-use Rattle.std.proofs.Common.{◌≡◌, ℕ, ◌+◌, ◌-◌, ◌*◌, ◌/◌, ◌%◌, ◌<◌, ◌≤◌, List, [], ◌∷◌, ◌++◌, length, get_or, take, drop, set, sym, ap, ◌∙◌, ap₂, arith}
+use Rattle.std.proofs.Common.{◌≡◌, ℕ, ◌+◌, ◌-◌, ◌*◌, ◌/◌, ◌%◌, ◌<◌, ◌≤◌, List, [], ◌∷◌, ◌++◌, length, get_or, take, drop, set, sym, ap, ◌∙◌, add-zero, arith}
+use Rattle.std.proofs.lemmas.Grind.{drop_more_same}
 use Rattle.std.proofs.lemmas.Nat.{mul-le}
-use Rattle.std.proofs.lemmas.List.{append_assoc, append-nil, drop_all, drop-drop, drop_more, drop-set-lt, get_or-drop, take_all, take_more_set}
+use Rattle.std.proofs.lemmas.List.{append_assoc, drop_more, drop-set-lt, get_or-drop, take_more_set}
 use Rattle.money.specs.Money.{pass, whole}
 
 -- the two products fit, where the factors are a life and what it lacks of D
-pub products_fit : (p q b x : ℕ) → q + p ≡ whole → b ≤ whole → x ≤ whole → p * b + q * x ≤ 1000000000000000000
-products_fit p q b x h hb hx =
-    omega (arith, mul-le p b p whole (omega arith) hb, mul-le q x q whole (omega arith) hx)
+pub products_fit : (p b x : ℕ) → p ≤ whole → b ≤ whole → x ≤ whole → p * b + (whole - p) * x ≤ 1000000000000000000
+products_fit p b x h hb hx =
+    omega (arith, mul-le p b p whole (omega arith) hb, mul-le (whole - p) x (whole - p) whole (omega arith) hx)
 
 module _ (p : ℕ) (row entry : List ℕ) (i b c : ℕ) (l : i < length row) (same : drop i row ≡ drop i entry) where
   -- what the pass reads is what was there
-  pub read_same : get_or row i 0 ≡ get_or entry i 0
-  read_same =
-      let e : i + 0 ≡ i = omega arith in
-      ap (λ k. get_or row k 0) (sym e) ∙ sym (get_or-drop i row 0 0) ∙ ap (λ zs. get_or zs 0 0) same ∙ get_or-drop i entry 0 0
-      ∙ ap (λ k. get_or entry k 0) e
+  read_same : get_or row i 0 ≡ get_or entry i 0
+  read_same = simp (get_or-drop, add-zero) at (ap (λ zs. get_or zs 0 0) same)
 
   rest_same : drop (i + 1) row ≡ drop (i + 1) entry
-  rest_same = sym (drop-drop 1 i row) ∙ ap (drop 1) same ∙ drop-drop 1 i entry
+  rest_same = drop_more_same row entry i same
 
   pub rest_more : (v : ℕ) → drop (i + 1) (set row i v) ≡ drop (i + 1) entry
   rest_more v = drop-set-lt (i + 1) row i v (omega arith) ∙ rest_same
@@ -35,15 +33,10 @@ module _ (p : ℕ) (row entry : List ℕ) (i b c : ℕ) (l : i < length row) (sa
       ∙ ap (λ zs. take i row ++ pass p b c zs) (sym (drop_more row i 0 l) ∙ same)
       ∙ done
 
--- what a turn reads is at most D, and its products fit
-pub turn_fits : (p b : ℕ) (row entry : List ℕ) (i : ℕ) → p ≤ whole → b ≤ whole → i < length row → drop i row ≡ drop i entry
-    → ((k : ℕ) → get_or entry k 0 ≤ whole)
-    → (get_or row i 0 ≤ whole) × (p * b + (whole - p) * get_or row i 0 ≤ 1000000000000000000)
-turn_fits p b row entry i hp hb l same small =
-    let h : get_or row i 0 ≤ whole = omega (arith, read_same p row entry i 0 0 l same, small i) in
-    (h, products_fit p (whole - p) b (get_or row i 0) (omega arith) hb h)
+-- what a turn reads is at most D, as every old entry is
+pub read_small : (row entry : List ℕ) (i : ℕ) → i < length row → drop i row ≡ drop i entry
+    → ((k : ℕ) → get_or entry k 0 ≤ whole) → get_or row i 0 ≤ whole
+read_small row entry i l same small = omega (arith, read_same 0 row entry i 0 0 l same, small i)
 
-pub done_all : (p : ℕ) (row entry : List ℕ) (i b c : ℕ) → length row ≤ i → length entry ≤ i
-    → take i row ++ pass p b c (drop i entry) ≡ pass p 0 0 entry → row ≡ pass p 0 0 entry
-done_all p row entry i b c hr he done =
-    sym (ap₂ (λ xs ys. xs ++ pass p b c ys) (take_all i row hr) (drop_all i entry he) ∙ append-nil row) ∙ done
+-- what a turn of the pass needs
+pub ruleset turns = (products_fit, read_small, rest_more, done_more)

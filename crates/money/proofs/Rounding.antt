@@ -141,9 +141,6 @@ row_sum lives h = (rows_kept lives (whole ∷ []) h refl).0
 pub row_long : (lives : List ℕ) → AllByRecursion (λ p. p ≤ whole) lives → length (money_row lives) ≡ length lives + 1
 row_long lives h = omega (arith, (rows_kept lives (whole ∷ []) h refl).1)
 
-pub row_small : (lives : List ℕ) → AllByRecursion (λ p. p ≤ whole) lives → (k : ℕ) → get_or (money_row lives) k 0 ≤ whole
-row_small lives h k = omega (arith, get_or_le_sum (money_row lives) k, row_sum lives h)
-
 -- ---- all the bounds of a row
 abbrev Good : List ℕ → List ℕ → Type 0
 Good ls row = (sum row ≡ whole) × ((k : ℕ) → Near (length ls) (exact ls k) (sum (drop k row)))

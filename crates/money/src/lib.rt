@@ -7,7 +7,7 @@ ghost use Rattle.money.specs.Answer.{Admitted, FactorAnswered, Refused, RowAnswe
 ghost use Rattle.money.specs.Money.{pass, whole};
 
 /// D, which stands for a chance of one.
-const WHOLE: u32 = 1_000_000_000;
+const WHOLE: u64 = 1_000_000_000;
 
 /// The most lives, and the largest count asked for.
 const LIMIT: usize = 64;
@@ -58,28 +58,26 @@ fn admit(lives: &[u32]) -> Result<(), Refusal>
     if lives.len() > LIMIT {
         return Err(Refusal::TooManyLives);
     }
-    for (place, p) in lives.iter().enumerate() {
-        if *p > WHOLE {
-            return Err(Refusal::LifeAboveOne { place });
-        }
+    match lives.iter().position(|p| *p as u64 > WHOLE) {
+        Some(place) => Err(Refusal::LifeAboveOne { place }),
+        None => Ok(()),
     }
-    Ok(())
 }
 
 /// Takes one life into a row, whose last entry is new and 0.
-fn add_life(p: u32, row: &mut [u64])
+#[tactic(auto, using(crate::proofs::Passes::turns))]
+fn add_life(p: u64, row: &mut [u64])
     requires { (p ≤ whole) × (((k : ℕ) → slice_index row.old k ≤ whole)) }
     ensures { row.new ≡ pass p 0 0 row.old }
 {
-    let alive = p as u64;
-    let dead = (WHOLE - p) as u64;
+    let dead = WHOLE - p;
     let mut below = 0;
     let mut carry = 0;
     for cell in row.iter_mut() {
         let old = *cell;
-        let t = alive * below + dead * old + carry;
-        *cell = t / WHOLE as u64;
-        carry = t % WHOLE as u64;
+        let t = p * below + dead * old + carry;
+        *cell = t / WHOLE;
+        carry = t % WHOLE;
         below = old;
     }
 }
@@ -95,24 +93,12 @@ pub fn money_row(lives: &[u32], row: &mut [u64]) -> Result<(), Refusal>
     if row.len() <= lives.len() {
         return Err(Refusal::ShortTable);
     }
-    row[0] = WHOLE as u64;
+    row[0] = WHOLE;
     for (i, p) in lives.iter().enumerate() {
         row[i + 1] = 0;
-        add_life(*p, &mut row[0..i + 2]);
+        add_life(*p as u64, &mut row[..i + 2]);
     }
     Ok(())
-}
-
-/// The sum of the entries from `k` on, below `count`.
-fn sum_from(row: &[u64], k: usize, count: usize) -> u64
-    requires { (count ≤ length row.now) × (total naturals (take count row.now) ≤ whole) }
-    ensures { result ≡ total naturals (drop k (take count row.now)) }
-{
-    let mut sum = 0;
-    for r in k..count {
-        sum += row[r];
-    }
-    sum
 }
 
 /// Wipes the table that it holds when it is let go, whichever way that comes.
@@ -141,5 +127,5 @@ pub fn factor(lives: &[u32], k: u32, work: &mut [u64]) -> Result<u64, Refusal>
         return Err(Refusal::CountAboveLimit);
     }
     money_row(lives, guard.0)?;
-    Ok(sum_from(guard.0, k as usize, lives.len() + 1))
+    Ok(guard.0[..lives.len() + 1].iter().skip(k as usize).sum())
 }

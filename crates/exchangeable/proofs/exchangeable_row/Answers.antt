@@ -1,56 +1,45 @@
-use Rattle.std.proofs.Common.{◌≡◌, ℕ, ◌+◌, ◌-◌, ◌≤◌, get_or, pos, ◌*ℤ◌, ◌≤ℤ◌, refl, ap, ◌∙◌, ap₂, arith}
+use Rattle.std.proofs.Common.{ℕ, ◌+◌, ◌<◌, ◌++◌, length, take, drop, get_or, pos, ◌≤ℤ◌, ◌<ℤ◌, refl, subst, arith, rules, length-take}
 use Rattle.std.proofs.lemmas.Result.{err_from_is_err_and}
-use Rattle.exchangeable.specs.Events.{value, top}
-use Rattle.exchangeable.proofs.Columns.{choose_small}
+use Rattle.exchangeable.specs.Answer.{Answered}
 use Rattle.exchangeable.proofs.Differences.{events_from}
-use Rattle.exchangeable.proofs.Rows.{none_below, some_below, value_nonneg, value_small, row_from}
+use Rattle.exchangeable.proofs.Rows.{none_below, some_below, sizes, row_from}
 use Rattle.exchangeable.proofs.exchangeable_row.Goals as goal
 
-pub returns-in_err-admit : goal.returns-in_err-admit
-returns-in_err-admit c =
+pub returns-in_err-table : goal.returns-in_err-table
+returns-in_err-table c =
     let p = err_from_is_err_and c.from_residual.result c.from_residual.ensures.1 in
-    rw (p.1, p.2) (c.in_err-admit.ensures c.args.m c.args.out.now, refl)
+    rw (p.1, p.2) (c.in_err-table.ensures c.args.m c.args.out.now, refl)
 
 pub returns-in-Some : goal.returns-in-Some
 returns-in-Some c =
-    let a = c.in_ok-admit.ensures in (
-      some_below c.args.table.now c.column-weights.result (omega arith) c.column-weights.ensures
-          c.args.m c.args.out.now c.in-Some.place a (omega arith) (omega arith) c.in-Some.ensures,
-      refl,
-    )
+    let t = c.in_ok-table.table in
+    let ws = take (c.top-top.result + 1) c.column-weights.result in
+    let h : (c.in-Some.place < length ws) × (get_or ws c.in-Some.place (pos 0) <ℤ pos 0)
+    × ((i : ℕ) → i < c.in-Some.place → pos 0 ≤ℤ get_or ws i (pos 0)) = search rules in
+    let r =
+    some_below t.coefficients.now c.column-weights.result _ c.top-top.ensures (omega arith) c.column-weights.ensures c.args.m c.args.out.now
+    c.in-Some.place t.admitted (omega arith) (omega arith) h in
+    (rw c.in_ok-table.ensures at r, refl)
 
-pub multiply-requires : goal.multiply-requires
-multiply-requires c =
-    let a = c.in_ok-admit.ensures in
-    let last : (k : ℕ) → k ≤ top c.args.table.now → pos 0 ≤ℤ value c.args.table.now k (top c.args.table.now) =
-    none_below c.args.table.now c.column-weights.result (omega arith) c.column-weights.ensures
-    c.in_default.ensures (omega arith) in
-    record {
-      lengths = omega arith;
-      sizes = λ k h.
-          let e : c.args.m + 1 - 1 ≡ c.args.m = omega arith in
-          let v : get_or c.column.result k (pos 0) ≡ value c.args.table.now k c.args.m =
-          rw e at (c.column.ensures k h) in (
-            omega (arith, c.binomials.ensures k (omega arith), choose_small c.args.m k (omega arith)),
-            rw v (value_nonneg c.args.table.now a last k c.args.m (omega arith) (omega arith)),
-            rw v (value_small c.args.table.now a last k c.args.m (omega arith) (omega arith)),
-          );
-    }
+pub multiply-requires-clause-sizes : goal.multiply-requires-clause-sizes
+multiply-requires-clause-sizes c =
+    let t = c.in_ok-table.table in
+    let ws = take (c.top-top.result + 1) c.column-weights.result in
+    let h : (k : ℕ) → k < length ws → pos 0 ≤ℤ get_or ws k (pos 0) = search rules in
+    let last = none_below t.coefficients.now c.column-weights.result _ c.top-top.ensures (omega arith) c.column-weights.ensures h in
+    λ k l.
+    sizes t.coefficients.now c.args.m c.binomials.result c.column.result (omega arith) c.binomials.ensures c.column.ensures
+    t.admitted (omega arith) last k (omega (arith, length-take (c.args.m + 1) c.args.out.now))
 
 pub returns : goal.returns
 returns c =
-    let a = c.in_ok-admit.ensures in
-    let last : (k : ℕ) → k ≤ top c.args.table.now → pos 0 ≤ℤ value c.args.table.now k (top c.args.table.now) =
-    none_below c.args.table.now c.column-weights.result (omega arith) c.column-weights.ensures
-    c.in_default.ensures (omega arith) in (
-      a,
-      omega arith,
-      omega arith,
-      events_from c.args.table.now last,
-      row_from c.args.table.now c.args.m c.multiply.new.out (omega arith)
-          (λ k h.
-          let e : c.args.m + 1 - 1 ≡ c.args.m = omega arith in
-          c.multiply.ensures.products k h
-          ∙ ap₂ ◌*ℤ◌ (ap pos (c.binomials.ensures k (omega arith))) (rw e at (c.column.ensures k h))),
-      c.multiply.ensures.others,
-    )
+    let t = c.in_ok-table.table in
+    let ws = take (c.top-top.result + 1) c.column-weights.result in
+    let h : (k : ℕ) → k < length ws → pos 0 ≤ℤ get_or ws k (pos 0) = search rules in
+    let last = none_below t.coefficients.now c.column-weights.result _ c.top-top.ensures (omega arith) c.column-weights.ensures h in
+    let r =
+    row_from t.coefficients.now c.args.m c.binomials.result c.column.result (omega arith) c.binomials.ensures c.column.ensures
+    c.multiply.new.out (drop (c.args.m + 1) c.args.out.now) (omega (arith, length-take (c.args.m + 1) c.args.out.now))
+    (λ k l. c.multiply.ensures k (omega (arith, length-take (c.args.m + 1) c.args.out.now))) in
+    subst (λ u. Answered u c.args.m c.args.out.now (c.multiply.new.out ++ drop (c.args.m + 1) c.args.out.now)) c.in_ok-table.ensures
+    (t.admitted, omega arith, omega arith, events_from t.coefficients.now last, r.0, r.1)

@@ -1,9 +1,9 @@
-use Rattle.std.proofs.Common.{◌≡◌, ℕ, ◌+◌, ◌-◌, ◌<◌, ◌≤◌, length, get_or}
+use Rattle.std.proofs.Common.{◌≡◌, ℕ, ◌+◌, ◌<◌, ◌≤◌, ◌∷◌, get_or}
 use Rattle.exchangeable.proofs.next_binomials.Given as goal
 
--- the places from k on have taken on the one before
-abbrev pub invariant-loop-k : goal.invariant-loop-k
-invariant-loop-k l =
-    (0 < l.k)
-    × ((j : ℕ) → l.k ≤ j → j < length l.initial.row → get_or l.row j 0 ≡ get_or l.initial.row (j - 1) 0 + get_or l.initial.row j 0)
-    × ((j : ℕ) → j < l.k → get_or l.row j 0 ≡ get_or l.initial.row j 0)
+-- the places so far have taken on the one before, and the rest is as it was
+abbrev pub invariant-loop-entry : goal.invariant-loop-entry
+invariant-loop-entry l =
+    (l.before ≡ get_or (0 ∷ l.initial.row) l.entry-index 0)
+    × ((k : ℕ) → k < l.entry-index → get_or l.row k 0 ≡ get_or (0 ∷ l.initial.row) k 0 + get_or l.initial.row k 0)
+    × ((k : ℕ) → l.entry-index ≤ k → get_or l.row k 0 ≡ get_or l.initial.row k 0)
