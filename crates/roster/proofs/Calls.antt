@@ -1,5 +1,7 @@
 -- The calls' links, from what was found and what was done. Assumes nothing.
-use Rattle.std.proofs.Common.{◌≡◌, ℕ, ◌-◌, ◌<◌, ◌≤◌, cond, eqb, ◌≢◌, List, [], ◌++◌, length, take, replicate, Some, None, sym, refl, ap, ◌∙◌, subst, arith}
+use Rattle.std.proofs.Common.{◌≡◌, ℕ, ◌-◌, ◌<◌, ◌≤◌, cond, eqb, ◌≢◌, List, [], ◌++◌, length, take, drop, replicate, Some, None, sym, refl, ap, ◌∙◌, subst, ap₂, append-nil, arith, length-drop}
+use borrow.Rule.Slice.PartMut.{put_mid}
+use Rattle.std.proofs.lemmas.List.{drop_all}
 use Rattle.std.proofs.lemmas.Bool.{eq-eqb, ne_eqb, cond-true, cond-false}
 use Rattle.algebra.specs.Ring.{Ops, Laws}
 use Rattle.roster.specs.Ledger.{Ledger, capacity_of, Call, Join, Leave, Change, Clear, Answer, Done, Refused, present, place_of, answer, granted, is_refused}
@@ -85,28 +87,20 @@ module _ {F P : Type 0} (o : Ops F) (plain : F → P) where
           work size l held c free some,
         ))
 
+-- What a write to all but the first cell leaves.
+put_rest : {X : Type 0} (xs ys : List X) → put_mid 1 (length xs - 1) xs ys ≡ take 1 xs ++ ys
+put_rest xs ys = ap (λ zs. take 1 xs ++ (ys ++ zs)) (drop_all (length xs - 1) (drop 1 xs) (omega (arith, length-drop 1 xs))) ∙ ap (λ zs. take 1 xs ++ zs) (append-nil ys)
+
 module _ {F P : Type 0} {o : Ops F} (L : Laws o) (plain : F → P) where
-  pub clear_done : (before after : List (Cell P)) → 0 < length before → after ≡ take 1 before ++ replicate (length before - 1) (zero_cell o plain) → Met o plain Clear before Done after
-  clear_done before after some is size l held =
+  pub clear_done : (before rest : List (Cell P)) → 0 < length before → rest ≡ replicate (length before - 1) (zero_cell o plain) → Met o plain Clear before Done (put_mid 1 (length before - 1) before rest)
+  clear_done before rest some is size l held =
       let sized : length before ≡ size = length_held held in (
         refl,
         record {
           room = held.room;
           few = omega arith;
           numbered = tt;
-          are = is ∙ ap (λ xs. take 1 xs ++ replicate (length before - 1) (zero_cell o plain)) held.are ∙ ap (λ i. take 1 (laid o plain size l.whole l.lives) ++ replicate (i - 1) (zero_cell o plain)) sized
+          are = put_rest before rest ∙ ap₂ (λ xs ys. take 1 xs ++ ys) held.are (is ∙ ap (λ i. replicate (i - 1) (zero_cell o plain)) sized)
               ∙ cleared_laid L plain size l.whole l.lives (omega arith);
-        },
-      )
-
-  pub clear_none : (cells : List (Cell P)) → length cells ≤ 0 → Met o plain Clear cells Done cells
-  clear_none cells none size l held =
-      let sized : size ≡ 0 = omega (arith, length_held held) in (
-        refl,
-        record {
-          room = held.room;
-          few = omega arith;
-          numbered = tt;
-          are = held.are ∙ ap (λ n. laid o plain n l.whole l.lives) sized ∙ ap (λ n. laid o plain n l.whole []) (sym sized);
         },
       )

@@ -1,7 +1,7 @@
 -- Closing the gap that a life leaves, and wiping cells. Assumes nothing.
 use Rattle.std.proofs.Common.{◌≡◌, ℕ, ◌+◌, ◌-◌, ◌<◌, ◌≤◌, List, [], ◌∷◌, ◌++◌, map, length, get_or, take, drop, set, replicate, sym, refl, ap, ◌∙◌, subst, ap₂, append_assoc, append-nil, arith, length-append}
 use lib.ListN.{length-replicate}
-use Rattle.std.specs.List.{range_with_len}
+use Rattle.std.specs.List.{range_with_len, FoldsTo}
 use Rattle.std.proofs.lemmas.List.FromFn.{length-map-range_with_len}
 use Rattle.std.proofs.lemmas.List.{drop_more, drop_all, set_at, replicate_more, length-take-le, take-append-drop}
 use Rattle.roster.specs.Passes.{cell_of, cells_of, Ends, Closed}
@@ -50,26 +50,9 @@ module _ {P : Type 0} (z : P) (place n : ℕ) (before : List (Cell P)) where
       ∙ pass_from f g size (n + 1) (λ j h _. same_cell (g j) (f j)
       (ef j (omega arith) ∙ sym (ef (j + 1) (omega arith)) ∙ sym (cf.after j (omega arith))) refl (en j (omega arith) ∙ sym (en (j + 1) (omega arith)) ∙ sym (cn.after j (omega arith))))
 
--- Wiped below k, from a place on.
-abbrev pub wiped : {X : Type 0} → X → List X → ℕ → ℕ → List X
-wiped z xs place k = (take place xs ++ replicate (k - place) z) ++ drop k xs
-
-module _ {X : Type 0} (z : X) (xs : List X) (place : ℕ) (within : place ≤ length xs) where
-  pub wiped_start : xs ≡ wiped z xs place place
-  wiped_start =
-      let none : 0 ≡ place - place = omega arith in
-      subst (λ m. xs ≡ (take place xs ++ replicate m z) ++ drop place xs) none (sym (ap (λ ys. ys ++ drop place xs) (append-nil (take place xs)) ∙ take-append-drop place xs))
-
-  pub wiped_step : (cells : List X) (k : ℕ) (y : X) → place ≤ k → k < length xs → y ≡ z → cells ≡ wiped z xs place k → set cells k y ≡ wiped z xs place (k + 1)
-  wiped_step cells k y from inside e is =
-      let m : k + 1 - place ≡ k - place + 1 = omega arith in
-      let front : List X = take place xs ++ replicate (k - place) z in
-      let long : length front ≡ k = length-append (take place xs) (replicate (k - place) z) ∙ ap₂ ◌+◌ (length-take-le place xs within) (length-replicate (k - place) z) ∙ omega arith in
-      ap₂ (λ ys w. set ys k w) (is ∙ ap (λ ys. front ++ ys) (drop_more xs k z inside)) e
-      ∙ set_at front (get_or xs k z) (drop (k + 1) xs) z k long
-      ∙ sym (append_assoc front (z ∷ []) (drop (k + 1) xs))
-      ∙ ap (λ ys. ys ++ drop (k + 1) xs) (append_assoc (take place xs) (replicate (k - place) z) (z ∷ []) ∙ ap (λ ys. take place xs ++ ys) (replicate_more (k - place) z ∙ ap (λ i. replicate i z) (sym m)))
-
-  pub wiped_end : (cells : List X) (k : ℕ) → k ≡ length xs → cells ≡ wiped z xs place k → cells ≡ take place xs ++ replicate (length xs - place) z
-  wiped_end cells k e is =
-      is ∙ ap (λ ys. (take place xs ++ replicate (k - place) z) ++ ys) (drop_all k xs (omega arith)) ∙ append-nil (take place xs ++ replicate (k - place) z) ∙ ap (λ i. take place xs ++ replicate (i - place) z) e
+-- What calls of a closure that gives x each time have filled a list with.
+pub filled : {F X : Type 0} (R : F → X → F → Type 0) (x : X) (f : F) → ((y : X) (f' : F) → R f y f' → (y ≡ x) × (f' ≡ f)) → (ys : List X) (last : F) → FoldsTo R f ys last → ys ≡ replicate (length ys) x
+filled R x f gives [] last ran = refl
+filled R x f gives (y ∷ ys) last ran =
+    let one : (y ≡ x) × (ran.0 ≡ f) = gives y ran.0 ran.1 in
+    ap₂ ◌∷◌ one.0 (filled R x f gives ys last (subst (λ j. FoldsTo R j ys last) one.1 ran.2))

@@ -234,15 +234,10 @@ module _ {F P : Type 0} {o : Ops F} (L : Laws o) (plain : F → P) where
   laid_none : (n : ℕ) (d : F) (first : Cell P) → first ≡ cell_at o plain d [] 0 → first ∷ replicate n (zero_cell o plain) ≡ laid o plain (suc n) d []
   laid_none n d first e = ap₂ ◌∷◌ e (sym (map_counting_constant (cell_at o plain d []) (zero_cell o plain) 1 n (laid_past d)))
 
-  pub opened_some : (size : ℕ) (d : F) (cells : List (Cell P)) (first : Cell P) → 0 < size → cells ≡ replicate (size - 0) (zero_cell o plain)
+  pub opened_some : (size : ℕ) (d : F) (cells : List (Cell P)) (first : Cell P) → 0 < size → cells ≡ replicate size (zero_cell o plain)
       → first.figure ≡ plain d → first.sum ≡ plain o.one → first.number ≡ 0 → set cells 0 first ≡ laid o plain size d []
   opened_some zero d cells first h is f s n = absurd (omega arith)
-  opened_some (suc m) d cells first h is f s n =
-      let all : suc m - 0 ≡ suc m = omega arith in
-      ap (λ xs. set xs 0 first) (is ∙ ap (λ i. replicate i (zero_cell o plain)) all) ∙ laid_none m d first (laid_first d [] first f s n)
-
-  pub opened_none : (size : ℕ) (d : F) (cells : List (Cell P)) → size ≡ 0 → length cells ≤ 0 → cells ≡ laid o plain size d []
-  opened_none size d cells e h = nil_from_length cells (omega arith) ∙ ap (λ n. laid o plain n d []) (sym e)
+  opened_some (suc m) d cells first h is f s n = ap (λ xs. set xs 0 first) is ∙ laid_none m d first (laid_first d [] first f s n)
 
   pub cleared_laid : (size : ℕ) (d : F) (lives : List (Member F)) → 0 < size → take 1 (laid o plain size d lives) ++ replicate (size - 1) (zero_cell o plain) ≡ laid o plain size d []
   cleared_laid zero d lives h = absurd (omega arith)

@@ -12,7 +12,7 @@ use crate::questions::{at_least_of, exactly_of};
 use crate::refusals::Refusal;
 use crate::rows::{composed_row_of, triangle_row_of};
 use crate::slips::{Slip, Unclosed};
-use crate::writing::{lay_out, wipe_from};
+use crate::writing::{lay_out, wipe};
 use figures::Ring;
 
 const MOST: usize = 64;
@@ -107,8 +107,9 @@ impl<'a, F: Ring> Roster<'a, F> {
         ensures met { Met F.Ring.ops F.Ring.plain Clear self.old.cells.now Done self.new.cells.now }
         ensures lent { self.new.cells.ghost_name ≡ self.old.cells.ghost_name }
     {
-        if self.cells.len() > 0 {
-            wipe_from::<F>(self.cells, 1);
+        let cells = &mut *self.cells;
+        if !cells.is_empty() {
+            wipe::<F>(&mut cells[1..]);
         }
     }
 }
@@ -151,6 +152,6 @@ pub fn close<F: Ring>(cells: &mut [Cell<F::Plain>], slip: Slip) -> Result<(), Un
         });
     }
     slip.spend();
-    wipe_from::<F>(cells, 0);
+    wipe::<F>(cells);
     Ok(())
 }

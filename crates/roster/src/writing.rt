@@ -6,10 +6,9 @@ ghost use Rattle.roster.specs.Passes.{cells_of, Ends, Multiplied, Closed};
 use crate::cells::Cell;
 use figures::Ring;
 
-/// Every cell from this place on becomes zero in every field.
-pub(crate) fn wipe_from<F: Ring>(cells: &mut [Cell<F::Plain>], place: usize)
-    requires { place ≤ length cells.old }
-    ensures { cells.new ≡ take place cells.old ++ replicate (length cells.old - place) (zero_cell F.Ring.ops F.Ring.plain) }
+/// Every cell becomes zero in every field.
+pub(crate) fn wipe<F: Ring>(cells: &mut [Cell<F::Plain>])
+    ensures { cells.new ≡ replicate (length cells.old) (zero_cell F.Ring.ops F.Ring.plain) }
 {
     let zero = F::zero().to_plain();
     let blank = Cell {
@@ -17,9 +16,8 @@ pub(crate) fn wipe_from<F: Ring>(cells: &mut [Cell<F::Plain>], place: usize)
         sum: zero,
         number: 0,
     };
-    for k in place..cells.len() {
-        cells[k] = blank;
-    }
+    // Not `fill`: it asks for a clone that cannot fail, which `Plain` does not promise.
+    cells.fill_with(|| blank);
 }
 
 /// The sums of n lives become those with one life more. From the top down, so that each is made from sums as they were.
@@ -91,9 +89,9 @@ pub(crate) fn close_gap<F: Ring>(cells: &mut [Cell<F::Plain>], place: usize, n: 
 pub(crate) fn lay_out<F: Ring>(cells: &mut [Cell<F::Plain>], whole: F)
     ensures { cells.new ≡ laid F.Ring.ops F.Ring.plain (length cells.old) whole [] }
 {
-    wipe_from::<F>(cells, 0);
-    if cells.len() > 0 {
-        cells[0] = Cell {
+    wipe::<F>(cells);
+    if let Some(first) = cells.first_mut() {
+        *first = Cell {
             figure: whole.to_plain(),
             sum: F::one().to_plain(),
             number: 0,
