@@ -1,5 +1,5 @@
 use Rattle.std.proofs.Common.{◌<◌, length, refl, arith, rules, ◌∙◌}
-use Rattle.roster.proofs.Holding.{opened_some, opened_none}
+use Rattle.roster.proofs.Holding.{opened_some}
 use Rattle.roster.proofs.writing.lay_out.Goals as goal
 
 pub returns-in-Some : goal.returns-in-Some

@@ -1,5 +1,5 @@
 use Rattle.std.proofs.Common.{◌<◌, ◌-◌, ◌≡◌, length, replicate, refl, arith, rules, ◌∙◌}
-use Rattle.roster.proofs.Calls.{clear_done, clear_none}
+use Rattle.roster.proofs.Calls.{clear_done}
 use Rattle.roster.specs.Cells.{zero_cell}
 use Rattle.roster.proofs.rosters.Roster.clear.Goals as goal
 
