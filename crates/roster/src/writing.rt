@@ -1,7 +1,7 @@
 //! Passes over the cells, each in place.
 ghost use Rattle.std.specs.Prelude.{◌≡◌, ℕ, ◌+◌, ◌-◌, ◌<◌, ◌≤◌, [], ◌++◌, length, take, replicate};
 ghost use Rattle.roster.specs.Cells.{laid, zero_cell};
-ghost use Rattle.roster.specs.Passes.{cells_of, Ends, Multiplied, Closed};
+ghost use Rattle.roster.specs.Passes.{multiplied, divided, exchanged, cells_of, Ends, Closed};
 
 use crate::cells::Cell;
 use figures::Ring;
@@ -20,47 +20,38 @@ pub(crate) fn wipe<F: Ring>(cells: &mut [Cell<F::Plain>])
     cells.fill_with(|| blank);
 }
 
-/// The sums of n lives become those with one life more. From the top down, so that each is made from sums as they were.
-pub(crate) fn multiply_in<F: Ring>(cells: &mut [Cell<F::Plain>], n: usize, figure: F)
-    requires { n + 1 < length cells.old }
-    ensures { (size : ℕ) (figures : ℕ → F.Plain) (numbers : ℕ → ℕ) (old new : ℕ → F) → Ends n F.Ring.ops.zero old → Multiplied F.Ring.ops figure old new → cells.old ≡ cells_of size figures (λ k. F.Ring.plain (old k)) numbers → cells.new ≡ cells_of size figures (λ k. F.Ring.plain (new k)) numbers }
+/// The sums become those with one life more. The last of them was zero.
+pub(crate) fn multiply_in<F: Ring>(cells: &mut [Cell<F::Plain>], figure: F)
+    ensures { cells.new ≡ multiplied F.Ring.ops F.Ring.plain F.Ring.figure figure cells.old }
 {
-    for r in (1..n + 2).rev() {
-        let below = cells[r - 1];
-        let cell = cells[r];
-        let more = figure.mul(F::from_plain(below.sum));
-        let sum = F::from_plain(cell.sum).add(more).to_plain();
-        cells[r] = Cell { sum, ..cell };
+    let mut below = F::zero();
+    for cell in cells.iter_mut() {
+        let here = F::from_plain(cell.sum);
+        cell.sum = here.add(figure.mul(below)).to_plain();
+        below = here;
     }
 }
 
-/// The sums of n lives become those without a life of this figure. From the bottom up, so that each is made from the new one below it.
-pub(crate) fn divide_out<F: Ring>(cells: &mut [Cell<F::Plain>], n: usize, figure: F)
-    requires { n < length cells.old }
-    ensures { (size : ℕ) (figures : ℕ → F.Plain) (numbers : ℕ → ℕ) (old new : ℕ → F) → Ends n F.Ring.ops.zero old → Ends n F.Ring.ops.zero new → Multiplied F.Ring.ops figure new old → cells.old ≡ cells_of size figures (λ k. F.Ring.plain (old k)) numbers → cells.new ≡ cells_of size figures (λ k. F.Ring.plain (new k)) numbers }
+/// The sums become those without a life of this figure.
+pub(crate) fn divide_out<F: Ring>(cells: &mut [Cell<F::Plain>], figure: F)
+    ensures { cells.new ≡ divided F.Ring.ops F.Ring.plain F.Ring.figure figure cells.old }
 {
-    for r in 1..n + 1 {
-        let below = cells[r - 1];
-        let cell = cells[r];
-        let less = figure.mul(F::from_plain(below.sum));
-        let sum = F::from_plain(cell.sum).add(less.neg()).to_plain();
-        cells[r] = Cell { sum, ..cell };
+    let mut below = F::zero();
+    for cell in cells.iter_mut() {
+        below = F::from_plain(cell.sum).add(figure.mul(below).neg());
+        cell.sum = below.to_plain();
     }
 }
 
-/// The sums of n lives become those with another figure for one life. One pass: `without` is the sum below, without that life.
-pub(crate) fn exchange<F: Ring>(cells: &mut [Cell<F::Plain>], n: usize, out: F, figure: F)
-    requires { n < length cells.old }
-    ensures { (size : ℕ) (figures : ℕ → F.Plain) (numbers : ℕ → ℕ) (old mid new : ℕ → F) → Ends n F.Ring.ops.zero old → Ends n F.Ring.ops.zero new → mid 0 ≡ F.Ring.ops.one → Multiplied F.Ring.ops out mid old → Multiplied F.Ring.ops figure mid new → cells.old ≡ cells_of size figures (λ k. F.Ring.plain (old k)) numbers → cells.new ≡ cells_of size figures (λ k. F.Ring.plain (new k)) numbers }
+/// The sums become those with another figure for one life. One pass: `without` is the sum below, without that life.
+pub(crate) fn exchange<F: Ring>(cells: &mut [Cell<F::Plain>], out: F, figure: F)
+    ensures { cells.new ≡ exchanged F.Ring.ops F.Ring.plain F.Ring.figure out figure cells.old }
 {
-    let mut without = F::one();
-    for r in 1..n + 1 {
-        let cell = cells[r];
-        let less = out.mul(without);
+    let mut without = F::zero();
+    for cell in cells.iter_mut() {
         let more = figure.mul(without);
-        without = F::from_plain(cell.sum).add(less.neg());
-        let sum = without.add(more).to_plain();
-        cells[r] = Cell { sum, ..cell };
+        without = F::from_plain(cell.sum).add(out.mul(without).neg());
+        cell.sum = without.add(more).to_plain();
     }
 }
 
