@@ -21,32 +21,30 @@ module _ {P : Type 0} (z : P) (place n : ℕ) (before : List (Cell P)) where
       start ∙ sym (pass_below (cell_of kept sums left) (cell_of figures sums numbers) size place
       (λ k h _. same_cell (cell_of kept sums left k) (cell_of figures sums numbers k) (cf.before k h) refl (cn.before k h)))
 
-  pub closing_step : (cells : List (Cell P)) (k : ℕ) (cell above : Cell P) → place ≤ k → k + 1 < length cells → cell ≡ get_or cells k cell → above ≡ get_or cells (k + 1) above
-      → Closing z place n before k cells → Closing z place n before (k + 1) (set cells k (record { figure = above.figure; sum = cell.sum; number = above.number }))
-  closing_step cells k cell above from within rc ra inv size figures kept sums numbers left ef en cf cn start =
+  pub closing_step : (cells : List (Cell P)) (k : ℕ) (above e : Cell P) → place ≤ k → k + 1 < length cells → above ≡ get_or cells (k + 1) above → Closing z place n before k cells
+      → Closing z place n before (k + 1) (set cells k (record { figure = above.figure; sum = (get_or cells k e).sum; number = above.number }))
+  closing_step cells k above e from within read inv size figures kept sums numbers left ef en cf cn start =
       let f : ℕ → Cell P = cell_of kept sums left in
       let g : ℕ → Cell P = cell_of figures sums numbers in
       let is : cells ≡ map (up_to k f g) (range_with_len 0 size) = inv size figures kept sums numbers left ef en cf cn start in
       let sized : length cells ≡ size = ap length is ∙ length-map-range_with_len (up_to k f g) 0 size in
-      let cell-is : cell ≡ g k = rc ∙ ap (λ xs. get_or xs k cell) is ∙ get_or_up_to_from f g size k k cell (omega arith) (omega arith) in
-      let above-is : above ≡ g (k + 1) = ra ∙ ap (λ xs. get_or xs (k + 1) above) is ∙ get_or_up_to_from f g size k (k + 1) above (omega arith) (omega arith) in
-      ap (λ xs. set xs k (record { figure = above.figure; sum = cell.sum; number = above.number })) is
-      ∙ pass_up f g size k _ (same_cell (record { figure = above.figure; sum = cell.sum; number = above.number }) (f k)
-      (ap (λ c. c.figure) above-is ∙ sym (cf.after k from)) (ap (λ c. c.sum) cell-is) (ap (λ c. c.number) above-is ∙ sym (cn.after k from)))
+      let cell-is : get_or cells k e ≡ g k = ap (λ xs. get_or xs k e) is ∙ get_or_up_to_from f g size k k e (omega arith) (omega arith) in
+      let above-is : above ≡ g (k + 1) = read ∙ ap (λ xs. get_or xs (k + 1) above) is ∙ get_or_up_to_from f g size k (k + 1) above (omega arith) (omega arith) in
+      ap₂ (λ xs c. set xs k c) is (same_cell _ (f k) (ap (λ c. c.figure) above-is ∙ sym (cf.after k from)) (ap (λ c. c.sum) cell-is) (ap (λ c. c.number) above-is ∙ sym (cn.after k from)))
+      ∙ pass_up f g size k (f k) refl
 
-  pub closing_end : (cells : List (Cell P)) (k : ℕ) (last : Cell P) (figure : P) → k ≡ n → place ≤ n → n < length cells → last ≡ get_or cells n last → figure ≡ z
+  pub closing_end : (cells : List (Cell P)) (k : ℕ) (e : Cell P) (figure : P) → k ≡ n → place ≤ n → n < length cells → figure ≡ z
       → Closing z place n before k cells → (size : ℕ) (figures kept sums : ℕ → P) (numbers left : ℕ → ℕ)
       → Ends n z figures → Ends n 0 numbers → Closed place figures kept → Closed place numbers left → before ≡ cells_of size figures sums numbers
-      → set cells n (record { figure = figure; sum = last.sum; number = 0 }) ≡ cells_of size kept sums left
-  closing_end cells k last figure here from within rl rz inv size figures kept sums numbers left ef en cf cn start =
+      → set cells n (record { figure = figure; sum = (get_or cells n e).sum; number = 0 }) ≡ cells_of size kept sums left
+  closing_end cells k e figure here from within rz inv size figures kept sums numbers left ef en cf cn start =
       let f : ℕ → Cell P = cell_of kept sums left in
       let g : ℕ → Cell P = cell_of figures sums numbers in
       let is : cells ≡ map (up_to n f g) (range_with_len 0 size) = inv size figures kept sums numbers left ef en cf cn start ∙ ap (λ i. map (up_to i f g) (range_with_len 0 size)) here in
       let sized : length cells ≡ size = ap length is ∙ length-map-range_with_len (up_to n f g) 0 size in
-      let last-is : last ≡ g n = rl ∙ ap (λ xs. get_or xs n last) is ∙ get_or_up_to_from f g size n n last (omega arith) (omega arith) in
-      ap (λ xs. set xs n (record { figure = figure; sum = last.sum; number = 0 })) is
-      ∙ pass_up f g size n _ (same_cell (record { figure = figure; sum = last.sum; number = 0 }) (f n)
-      (rz ∙ sym (ef (n + 1) (omega arith)) ∙ sym (cf.after n from)) (ap (λ c. c.sum) last-is) (sym (en (n + 1) (omega arith)) ∙ sym (cn.after n from)))
+      let last-is : get_or cells n e ≡ g n = ap (λ xs. get_or xs n e) is ∙ get_or_up_to_from f g size n n e (omega arith) (omega arith) in
+      ap₂ (λ xs c. set xs n c) is (same_cell _ (f n) (rz ∙ sym (ef (n + 1) (omega arith)) ∙ sym (cf.after n from)) (ap (λ c. c.sum) last-is) (sym (en (n + 1) (omega arith)) ∙ sym (cn.after n from)))
+      ∙ pass_up f g size n (f n) refl
       ∙ pass_from f g size (n + 1) (λ j h _. same_cell (g j) (f j)
       (ef j (omega arith) ∙ sym (ef (j + 1) (omega arith)) ∙ sym (cf.after j (omega arith))) refl (en j (omega arith) ∙ sym (en (j + 1) (omega arith)) ∙ sym (cn.after j (omega arith))))
 

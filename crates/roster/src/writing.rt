@@ -60,20 +60,17 @@ pub(crate) fn close_gap<F: Ring>(cells: &mut [Cell<F::Plain>], place: usize, n: 
     requires { n < length cells.old }
     ensures { place ≤ n → (size : ℕ) (figures kept sums : ℕ → F.Plain) (numbers left : ℕ → ℕ) → Ends n (F.Ring.plain F.Ring.ops.zero) figures → Ends n 0 numbers → Closed place figures kept → Closed place numbers left → cells.old ≡ cells_of size figures sums numbers → cells.new ≡ cells_of size kept sums left }
 {
+    // By index: a proof knows nothing of what is written through an iterator that goes down.
     for k in place..n {
-        let cell = cells[k];
         let above = cells[k + 1];
         cells[k] = Cell {
-            sum: cell.sum,
+            sum: cells[k].sum,
             ..above
         };
     }
-    let last = cells[n];
-    cells[n] = Cell {
-        figure: F::zero().to_plain(),
-        number: 0,
-        ..last
-    };
+    let last = &mut cells[n];
+    last.figure = F::zero().to_plain();
+    last.number = 0;
 }
 
 /// The cells of a roster without lives.
