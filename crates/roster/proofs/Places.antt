@@ -1,7 +1,7 @@
 -- Where a number stands among the lives. Assumes nothing.
 use Rattle.std.proofs.Common.{◌≡◌, ℕ, zero, suc, ◌+◌, ◌-◌, ◌<◌, ◌≤◌, Bool, true, false, not, cond, ◌||◌, eqb, ltb, ◌≢◌, ◌⊎◌, List, [], ◌∷◌, ◌++◌, map, length, get_or, Some, None, Option, sym, refl, ap, ◌∙◌, ap₂, inl, inr, add-one, arith}
 use Rattle.std.specs.List.{position, position_or_len}
-use Rattle.std.specs.Option.{option_map}
+use Rattle.std.specs.Option.{option_map, is_some}
 use Rattle.std.proofs.lemmas.Bool.{cases_lt, lt-ltb, le-ltb, eqb-true, eq-eqb, ne_eqb, cases_Bool, cond-true, cond-false, or_left}
 use Rattle.roster.specs.Ledger.{Member, Ledger, numbers, present, further, place_of, without, changed}
 use Rattle.roster.specs.declared.cells.Cell.{Cell}
@@ -43,19 +43,18 @@ placed {F} {P} n (c ∷ cs) (m ∷ ms) same = at (placed n cs ms (cc)) (cases_Bo
     at rest (inl t) = here true t ∙ ap (option_map (λ i. i + 1)) (cond-true (ltb 0 (suc (length cs))) (Some 0) None (lt-ltb 0 (suc (length cs)) (omega arith))) ∙ sym (cond-true (eqb m.number n) (Some 1) (further (place_of n ms)) t)
     at rest (inr f) = here false f ∙ found_further q (length cs) ∙ ap further rest ∙ sym (cond-false (eqb m.number n) (Some 1) (further (place_of n ms)) f)
 
-module _ {F : Type 0} (n : ℕ) where
-  -- A number that has no place is not present.
-  pub absent : (lives : List (Member F)) → place_of n lives ≡ None → present n lives ≡ false
-  absent [] e = refl
-  absent (m ∷ ms) e = at (absent ms) (cases_Bool (eqb m.number n))
-    where
-      next : (p : Option ℕ) → further p ≡ None → p ≡ None
-      next None e = refl
-      next (Some k) e = let z : ◌≡◌ {A = ℕ} 0 1 = cc in absurd (omega arith)
+-- The numbers that are present are those that have a place.
+pub present_is : {F : Type 0} (n : ℕ) (lives : List (Member F)) → present n lives ≡ is_some (place_of n lives)
+present_is n [] = refl
+present_is n (m ∷ ms) = at (present_is n ms) (cases_Bool (eqb m.number n))
+  where
+    same : (p : Option ℕ) → is_some p ≡ is_some (further p)
+    same None = refl
+    same (Some k) = refl
 
-      at : (place_of n ms ≡ None → present n ms ≡ false) → (eqb m.number n ≡ true) ⊎ (eqb m.number n ≡ false) → present n (m ∷ ms) ≡ false
-      at rest (inl t) = let z : ◌≡◌ {A = ℕ} 0 1 = cc (cond-true (eqb m.number n) (Some 1) (further (place_of n ms)) t) in absurd (omega arith)
-      at rest (inr f) = ap₂ ◌||◌ f (rest (next (place_of n ms) (sym (cond-false (eqb m.number n) (Some 1) (further (place_of n ms)) f) ∙ e)))
+    at : present n ms ≡ is_some (place_of n ms) → (eqb m.number n ≡ true) ⊎ (eqb m.number n ≡ false) → present n (m ∷ ms) ≡ is_some (place_of n (m ∷ ms))
+    at rest (inl t) = or_left (eqb m.number n) (present n ms) t ∙ ap is_some (sym (cond-true (eqb m.number n) (Some 1) (further (place_of n ms)) t))
+    at rest (inr f) = ap₂ ◌||◌ f rest ∙ same (place_of n ms) ∙ ap is_some (sym (cond-false (eqb m.number n) (Some 1) (further (place_of n ms)) f))
 
 -- The lives around the one at a place.
 pub record Around {F : Type 0} (n : ℕ) (lives : List (Member F)) (place : ℕ) : Type 0 where
@@ -67,7 +66,6 @@ pub record Around {F : Type 0} (n : ℕ) (lives : List (Member F)) (place : ℕ)
   pub gone : without n lives ≡ before ++ after
   pub anew : (x : F) → changed n x lives ≡ before ++ (record { number = n; figure = x } ∷ after)
   pub named : life.number ≡ n
-  pub there : present n lives ≡ true
 
 some_same : (j k : ℕ) → ◌≡◌ {A = Option ℕ} (Some j) (Some k) → j ≡ k
 some_same j k e = cc
@@ -90,7 +88,6 @@ around {F} n (m ∷ ms) place e = at (around n ms) (cases_Bool (eqb m.number n))
           gone = cond-false (eqb m.number n) ms (m ∷ without n ms) differs ∙ ap (λ xs. m ∷ xs) a.gone;
           anew = λ x. cond-false (eqb m.number n) (record { number = n; figure = x } ∷ ms) (m ∷ changed n x ms) differs ∙ ap (λ xs. m ∷ xs) (a.anew x);
           named = a.named;
-          there = ap₂ ◌||◌ differs a.there;
         }
 
     at : ((k : ℕ) → place_of n ms ≡ Some k → Around n ms k) → (eqb m.number n ≡ true) ⊎ (eqb m.number n ≡ false) → Around n (m ∷ ms) place
@@ -105,6 +102,5 @@ around {F} n (m ∷ ms) place e = at (around n ms) (cases_Bool (eqb m.number n))
           gone = cond-true (eqb m.number n) ms (m ∷ without n ms) t;
           anew = λ x. cond-true (eqb m.number n) (record { number = n; figure = x } ∷ ms) (m ∷ changed n x ms) t;
           named = eqb-true m.number n t;
-          there = or_left (eqb m.number n) (present n ms) t;
         }
     at rest (inr f) = deeper rest (place_of n ms) refl (sym (cond-false (eqb m.number n) (Some 1) (further (place_of n ms)) f) ∙ e) f

@@ -1,7 +1,7 @@
 //! How many lives the cells hold, and where each is.
 ghost use Rattle.std.specs.Prelude.{◌≡◌, ℕ, ◌<◌, ◌≤◌, length, IfSome};
-ghost use Rattle.roster.specs.Ledger.{Ledger, place_of};
-ghost use Rattle.roster.specs.Cells.{Holds};
+ghost use Rattle.roster.specs.Ledger.{place_of};
+ghost use Rattle.roster.specs.Cells.{OfLedger};
 
 use crate::cells::Cell;
 use figures::Ring;
@@ -13,7 +13,7 @@ pub(crate) const MOST: usize = 64;
 pub(crate) fn count<F: Ring>(cells: &[Cell<F::Plain>]) -> usize
     ensures few { result ≤ 64 }
     ensures within { 0 < result → result < length cells.now }
-    ensures lives { (size : ℕ) (l : Ledger F) → Holds F.Ring.ops F.Ring.plain size l cells.now → result ≡ length l.lives }
+    ensures lives { OfLedger F.Ring.ops F.Ring.plain cells.now (λ l. result ≡ length l.lives) }
 {
     let lives = cells.iter().skip(1).take(MOST);
     lives.take_while(|life| life.number != 0).count()
@@ -22,7 +22,7 @@ pub(crate) fn count<F: Ring>(cells: &[Cell<F::Plain>]) -> usize
 /// The place of the first life with this number.
 pub(crate) fn place<F: Ring>(cells: &[Cell<F::Plain>], number: u32) -> Option<usize>
     ensures within { IfSome result (λ k. (0 < k) × (k < length cells.now)) }
-    ensures found { (size : ℕ) (l : Ledger F) → Holds F.Ring.ops F.Ring.plain size l cells.now → result ≡ place_of number l.lives }
+    ensures found { OfLedger F.Ring.ops F.Ring.plain cells.now (λ l. result ≡ place_of number l.lives) }
 {
     let n = count::<F>(cells);
     let mut lives = cells.iter().skip(1).take(n);
