@@ -1,11 +1,11 @@
 -- The calls' links, from what was found and what was done. Assumes nothing.
-use Rattle.std.proofs.Common.{◌≡◌, ℕ, ◌-◌, ◌<◌, ◌≤◌, true, false, cond, eqb, ◌≢◌, List, [], ◌++◌, length, take, drop, replicate, Some, None, Option, sym, refl, ap, ◌∙◌, subst, ap₂, append-nil, arith, length-drop}
+use Rattle.std.proofs.Common.{◌≡◌, ℕ, ◌-◌, ◌<◌, true, false, cond, eqb, ◌≢◌, List, ◌++◌, length, take, drop, replicate, Some, None, Option, sym, refl, ap, ◌∙◌, subst, ap₂, append-nil, arith, length-drop}
 use borrow.Rule.Slice.PartMut.{put_mid}
 use Rattle.std.proofs.lemmas.List.{drop_all}
 use Rattle.std.proofs.lemmas.Bool.{eq-eqb, ne_eqb, cond-true, cond-false}
 use Rattle.algebra.specs.Ring.{Ops, Laws}
-use Rattle.roster.specs.Ledger.{Ledger, capacity_of, Call, Join, Leave, Change, Clear, Answer, Done, Refused, present, place_of, answer, granted, is_refused}
-use Rattle.roster.specs.Cells.{laid, Holds, OfLedger, Met, zero_cell}
+use Rattle.roster.specs.Ledger.{Ledger, capacity_of, Call, Join, Leave, Clear, Done, Refused, present, place_of, answer, granted, is_refused}
+use Rattle.roster.specs.Cells.{Holds, OfLedger, Met, zero_cell}
 use Rattle.roster.specs.Passes.{joined}
 use Rattle.roster.specs.Refusals.{done_or}
 use Rattle.roster.specs.declared.refusals.Refusal.TheVariants.{Absent}

@@ -1,9 +1,7 @@
 -- Closing the gap that a life leaves, and wiping cells. Assumes nothing.
-use Rattle.std.proofs.Common.{◌≡◌, ℕ, ◌+◌, ◌-◌, ◌<◌, ◌≤◌, List, [], ◌∷◌, ◌++◌, map, length, get_or, take, drop, set, replicate, sym, refl, ap, ◌∙◌, subst, ap₂, append_assoc, append-nil, arith, length-append}
-use lib.ListN.{length-replicate}
+use Rattle.std.proofs.Common.{◌≡◌, ℕ, ◌+◌, ◌<◌, ◌≤◌, List, [], ◌∷◌, map, length, get_or, set, replicate, sym, refl, ap, ◌∙◌, subst, ap₂, arith}
 use Rattle.std.specs.List.{range_with_len, FoldsTo}
 use Rattle.std.proofs.lemmas.List.FromFn.{length-map-range_with_len}
-use Rattle.std.proofs.lemmas.List.{drop_more, drop_all, set_at, replicate_more, length-take-le, take-append-drop}
 use Rattle.roster.specs.Passes.{cell_of, cells_of, Ends, Closed}
 use Rattle.roster.specs.declared.cells.Cell.{Cell}
 use Rattle.roster.proofs.Laying.{up_to, get_or_up_to_from, pass_up, pass_below, pass_from}
@@ -49,8 +47,11 @@ module _ {P : Type 0} (z : P) (place n : ℕ) (before : List (Cell P)) where
       (ef j (omega arith) ∙ sym (ef (j + 1) (omega arith)) ∙ sym (cf.after j (omega arith))) refl (en j (omega arith) ∙ sym (en (j + 1) (omega arith)) ∙ sym (cn.after j (omega arith))))
 
 -- What calls of a closure that gives x each time have filled a list with.
-pub filled : {F X : Type 0} (R : F → X → F → Type 0) (x : X) (f : F) → ((y : X) (f' : F) → R f y f' → (y ≡ x) × (f' ≡ f)) → (ys : List X) (last : F) → FoldsTo R f ys last → ys ≡ replicate (length ys) x
-filled R x f gives [] last ran = refl
-filled R x f gives (y ∷ ys) last ran =
+filled_all : {F X : Type 0} (R : F → X → F → Type 0) (x : X) (f : F) → ((y : X) (f' : F) → R f y f' → (y ≡ x) × (f' ≡ f)) → (ys : List X) (last : F) → FoldsTo R f ys last → ys ≡ replicate (length ys) x
+filled_all R x f gives [] last ran = refl
+filled_all R x f gives (y ∷ ys) last ran =
     let one : (y ≡ x) × (ran.0 ≡ f) = gives y ran.0 ran.1 in
-    ap₂ ◌∷◌ one.0 (filled R x f gives ys last (subst (λ j. FoldsTo R j ys last) one.1 ran.2))
+    ap₂ ◌∷◌ one.0 (filled_all R x f gives ys last (subst (λ j. FoldsTo R j ys last) one.1 ran.2))
+
+pub filled : {F X : Type 0} (R : F → X → F → Type 0) (x : X) (f : F) → ((y : X) (f' : F) → R f y f' → (y ≡ x) × (f' ≡ f)) → (ys : List X) (n : ℕ) → length ys ≡ n → (last : F) × FoldsTo R f ys last → ys ≡ replicate n x
+filled R x f gives ys n long ran = filled_all R x f gives ys ran.0 ran.1 ∙ ap (λ i. replicate i x) long

@@ -5,7 +5,7 @@ use lib.ListN.{length-map}
 use Rattle.std.specs.List.{range_with_len, AllByRecursion}
 use Rattle.std.proofs.lemmas.List.FromFn.{length-map-range_with_len, get_or-map-range_with_len}
 use Rattle.std.proofs.ByRecursion.{All-push}
-use Rattle.std.proofs.lemmas.List.{get_or_past, get_or_at, length_push, nil_from_length}
+use Rattle.std.proofs.lemmas.List.{get_or_past, get_or_at, length_push}
 use Rattle.algebra.specs.Ring.{Ops, Laws}
 use Rattle.algebra.specs.Sums.{elementary}
 use Rattle.algebra.proofs.Rows.{set_map_counting, map_counting_constant}

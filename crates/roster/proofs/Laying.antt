@@ -92,18 +92,12 @@ module _ {X : Type 0} (f g : ℕ → X) where
       at (inl h) = up_to_below r k h ∙ sym (up_to_below (r + 1) k (omega arith))
       at (inr h) = up_to_from r k h ∙ sym (up_to_from (r + 1) k (omega arith))
 
-  pub get_or_up_to_below : (size r k : ℕ) (e : X) → k < size → k < r → get_or (map (up_to r f g) (range_with_len 0 size)) k e ≡ f k
-  get_or_up_to_below size r k e h b = get_or-map-range_with_len (up_to r f g) 0 size k k e h (zero-add k) ∙ up_to_below r k b
-
   pub get_or_up_to_from : (size r k : ℕ) (e : X) → k < size → r ≤ k → get_or (map (up_to r f g) (range_with_len 0 size)) k e ≡ g k
   get_or_up_to_from size r k e h b = get_or-map-range_with_len (up_to r f g) 0 size k k e h (zero-add k) ∙ up_to_from r k b
 
-  -- A pass that goes up writes f r at place r, and one that goes down g r.
+  -- A pass that goes up writes f r at place r.
   pub pass_up : (size r : ℕ) (v : X) → v ≡ f r → set (map (up_to r f g) (range_with_len 0 size)) r v ≡ map (up_to (r + 1) f g) (range_with_len 0 size)
   pass_up size r v e = set_map_counting (up_to r f g) (up_to (r + 1) f g) size r v (e ∙ sym (up_to_below (r + 1) r (omega arith))) (λ k h ne. up_to_more r k ne)
-
-  pub pass_down : (size r : ℕ) (v : X) → v ≡ g r → set (map (up_to (r + 1) f g) (range_with_len 0 size)) r v ≡ map (up_to r f g) (range_with_len 0 size)
-  pass_down size r v e = set_map_counting (up_to (r + 1) f g) (up_to r f g) size r v (e ∙ sym (up_to_from r r (omega arith))) (λ k h ne. sym (up_to_more r k ne))
 
   -- Where a pass begins or ends, the places that it does not reach are alike in both.
   pub pass_below : (size r : ℕ) → ((k : ℕ) → k < r → k < size → f k ≡ g k) → map (up_to r f g) (range_with_len 0 size) ≡ map g (range_with_len 0 size)

@@ -1,7 +1,6 @@
 -- The passes that turn the kept sums of some lives into those of others. Assumes nothing.
-use Rattle.std.proofs.Common.{◌≡◌, ℕ, zero, suc, ◌+◌, ◌<◌, ◌≤◌, List, [], ◌∷◌, ◌++◌, map, length, get_or, take, drop, set, sym, refl, ap, ◌∙◌, ap₂, append_assoc, append-nil, add-one, arith}
+use Rattle.std.proofs.Common.{◌≡◌, ℕ, zero, suc, ◌+◌, ◌<◌, ◌≤◌, List, [], ◌∷◌, ◌++◌, map, take, drop, sym, refl, ap, ◌∙◌, ap₂, add-one, arith}
 use Rattle.std.specs.List.{range_with_len, scan}
-use Rattle.std.proofs.lemmas.List.{drop_all, drop-drop, drop_more, drop-set-lt, take_all, take_more_set}
 use Rattle.algebra.specs.Ring.{Ops, Laws}
 use Rattle.algebra.proofs.Solver.{ring, made}
 use Rattle.roster.specs.Passes.{cell_of, Ends, with_sum, rest, multiplied, divided, exchanged}

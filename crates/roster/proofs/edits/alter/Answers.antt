@@ -1,4 +1,4 @@
-use Rattle.std.proofs.Common.{◌+◌, drop, ap, ◌∙◌, ◌++◌}
+use Rattle.std.proofs.Common.{◌+◌, drop, ap, ◌++◌}
 use Rattle.roster.proofs.Holding.{alter_held}
 use Rattle.roster.proofs.edits.alter.Goals as goal
 

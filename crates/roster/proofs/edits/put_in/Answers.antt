@@ -1,4 +1,4 @@
-use Rattle.std.proofs.Common.{◌+◌, drop, ap, ◌∙◌, ◌++◌}
+use Rattle.std.proofs.Common.{◌+◌, drop, ap, ◌++◌}
 use Rattle.roster.proofs.Holding.{put_in_held}
 use Rattle.roster.proofs.edits.put_in.Goals as goal
 

@@ -1,4 +1,4 @@
-use Rattle.std.proofs.Common.{◌+◌, drop, ap, ◌∙◌, ◌++◌}
+use Rattle.std.proofs.Common.{◌+◌, drop, ap, ◌++◌}
 use Rattle.roster.proofs.Holding.{take_out_held}
 use Rattle.roster.proofs.edits.take_out.Goals as goal
 

@@ -1,4 +1,4 @@
-use Rattle.std.proofs.Common.{◌<◌, length, refl, arith, rules, ◌∙◌}
+use Rattle.std.proofs.Common.{◌<◌, length, refl, rules}
 use Rattle.roster.proofs.Holding.{opened_some}
 use Rattle.roster.proofs.writing.lay_out.Goals as goal
 

@@ -1,4 +1,4 @@
-use Rattle.std.proofs.Common.{◌<◌, ◌-◌, ◌≡◌, length, replicate, refl, arith, rules, ◌∙◌}
+use Rattle.std.proofs.Common.{◌<◌, ◌-◌, ◌≡◌, length, replicate, rules}
 use Rattle.roster.proofs.Calls.{clear_done}
 use Rattle.roster.specs.Cells.{zero_cell}
 use Rattle.roster.proofs.rosters.Roster.clear.Goals as goal

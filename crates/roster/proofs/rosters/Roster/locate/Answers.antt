@@ -1,6 +1,3 @@
-use Rattle.std.proofs.Common.{◌≡◌, rules, ap, ◌∙◌, subst}
-use Rattle.std.specs.Option.{ok_or}
-use Rattle.roster.specs.declared.refusals.Refusal.TheVariants.{Absent}
 use Rattle.roster.proofs.Calls.{located}
 use Rattle.roster.proofs.rosters.Roster.locate.Goals as goal
 
