@@ -1,5 +1,5 @@
 //! How many lives the cells hold, and where each is.
-ghost use Rattle.std.specs.Prelude.{◌≡◌, ℕ, ◌<◌, ◌≤◌, length, IfSome};
+ghost use Rattle.std.specs.Prelude.{◌≡◌, ◌<◌, ◌≤◌, length, IfSome};
 ghost use Rattle.roster.specs.Ledger.{place_of};
 ghost use Rattle.roster.specs.Cells.{OfLedger};
 

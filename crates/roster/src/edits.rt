@@ -1,5 +1,5 @@
 //! One life more, one life less, another figure for a life: figures, numbers and sums together.
-ghost use Rattle.std.specs.Prelude.{◌≡◌, ℕ, ◌+◌, ◌<◌, ◌≤◌, ◌≢◌, [], ◌∷◌, ◌++◌, length, Some};
+ghost use Rattle.std.specs.Prelude.{◌≡◌, ℕ, ◌+◌, ◌<◌, ◌≢◌, length, Some};
 ghost use Rattle.roster.specs.Ledger.{Ledger, place_of};
 ghost use Rattle.roster.specs.Cells.{Holds};
 ghost use Rattle.roster.specs.Passes.{joined, left, altered};

@@ -1,5 +1,5 @@
 //! Passes over the cells, each in place.
-ghost use Rattle.std.specs.Prelude.{◌≡◌, ℕ, ◌+◌, ◌-◌, ◌<◌, ◌≤◌, [], ◌++◌, length, take, replicate};
+ghost use Rattle.std.specs.Prelude.{◌≡◌, ℕ, ◌<◌, ◌≤◌, [], length, replicate};
 ghost use Rattle.roster.specs.Cells.{laid, zero_cell};
 ghost use Rattle.roster.specs.Passes.{multiplied, divided, exchanged, cells_of, Ends, Closed};
 
@@ -20,7 +20,7 @@ pub(crate) fn wipe<F: Ring>(cells: &mut [Cell<F::Plain>])
     cells.fill_with(|| blank);
 }
 
-/// The sums become those with one life more. The last of them was zero.
+/// The sums become those with one life more, for which the last cell is.
 pub(crate) fn multiply_in<F: Ring>(cells: &mut [Cell<F::Plain>], figure: F)
     ensures { cells.new ≡ multiplied F.Ring.ops F.Ring.plain F.Ring.figure figure cells.old }
 {
@@ -60,7 +60,7 @@ pub(crate) fn close_gap<F: Ring>(cells: &mut [Cell<F::Plain>], place: usize, n: 
     requires { n < length cells.old }
     ensures { place ≤ n → (size : ℕ) (figures kept sums : ℕ → F.Plain) (numbers left : ℕ → ℕ) → Ends n (F.Ring.plain F.Ring.ops.zero) figures → Ends n 0 numbers → Closed place figures kept → Closed place numbers left → cells.old ≡ cells_of size figures sums numbers → cells.new ≡ cells_of size kept sums left }
 {
-    // By index: a proof knows nothing of what is written through an iterator that goes down.
+    // By index: a carry from the top would do, but a proof knows nothing of what is written through a reversed iterator.
     for k in place..n {
         let above = cells[k + 1];
         cells[k] = Cell {
