@@ -1,7 +1,7 @@
 //! The roster, and the calls that alter it.
 ghost use Rattle.std.specs.Prelude.{◌≡◌, ◌<◌, ◌≤◌, ◌≢◌, length, replicate, IfSome, IfOk, MatchResult};
 ghost use Rattle.roster.specs.Ledger.{Join, Leave, Change, Clear, Exactly, AtLeast, Composed, Triangle, Done, opened, capacity_of, place_of, answer};
-ghost use Rattle.roster.specs.Cells.{Holds, OfLedger, Met, zero_cell};
+ghost use Rattle.roster.specs.Cells.{Holds, HoldSome, OfLedger, Met, zero_cell};
 ghost use Rattle.roster.specs.Refusals.{done_or, figure_or, table_or};
 ghost use Rattle.roster.specs.declared.refusals.Refusal.TheVariants.{OtherCells};
 
@@ -19,6 +19,7 @@ use figures::Ring;
 #[derive(Drop)]
 pub struct Roster<'a, F: Ring> {
     cells: &'a mut [Cell<F::Plain>],
+    ghost held: { ∥ HoldSome F.Ring.ops F.Ring.plain cells.now ∥₁ },
 }
 
 impl<'a, F: Ring> Roster<'a, F> {
