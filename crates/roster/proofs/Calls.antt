@@ -5,7 +5,7 @@ use Rattle.std.proofs.lemmas.List.{drop_all}
 use Rattle.std.proofs.lemmas.Bool.{eq-eqb, ne_eqb, cond-true, cond-false}
 use Rattle.std.proofs.Math.Logic.{∥∥₁_map}
 use Rattle.algebra.specs.Ring.{Ops, Laws}
-use Rattle.roster.specs.Ledger.{Answer, Ledger, capacity_of, Call, Join, Leave, Clear, Done, Refused, present, place_of, answer, granted, is_refused, next}
+use Rattle.roster.specs.Ledger.{Ledger, capacity_of, Call, Join, Leave, Clear, Done, Refused, present, place_of, answer, granted, is_refused}
 use Rattle.roster.specs.Cells.{Holds, OfLedger, HoldSome, Met, zero_cell}
 use Rattle.roster.specs.Passes.{joined}
 use Rattle.roster.specs.Refusals.{done_or}
@@ -32,9 +32,10 @@ module _ {F P : Type 0} (o : Ops F) (plain : F → P) where
       let go : cond (is_refused o plain (answer o plain l call)) l.lives (granted o plain l.lives call) ≡ granted o plain l.lives call = cond-false (is_refused o plain (answer o plain l call)) l.lives (granted o plain l.lives call) (ap (is_refused o plain) (sym d.0)) in
       (d.0, subst (λ lives. Holds o plain size (record { whole = l.whole; capacity = l.capacity; lives = lives }) after) (sym go) d.1)
 
-  -- Cells that held a ledger hold one after a call.
-  pub still : (call : Call F P) (before : List (Cell P)) (given : Answer F P) (after : List (Cell P)) → Met o plain call before given after → ∥ HoldSome o plain before ∥₁ → ∥ HoldSome o plain after ∥₁
-  still call before given after met some = ∥∥₁_map some (λ s. (s.0, (next o plain s.1.0 call, (met s.0 s.1.0 s.1.1).1)))
+  -- Cells that held a ledger hold what became of it.
+  pub still : (became : Ledger F → Ledger F) (before after : List (Cell P)) → ((size : ℕ) (l : Ledger F) → Holds o plain size l before → Holds o plain size (became l) after)
+      → ∥ HoldSome o plain before ∥₁ → ∥ HoldSome o plain after ∥₁
+  still became before after work some = ∥∥₁_map some (λ s. (s.0, (became s.1.0, work s.0 s.1.0 s.1.1)))
 
   -- Leaving and changing are answered alike, by whether the number has a place.
   leaves : (n : ℕ) → n ≢ 0 → (l : Ledger F) (p : Option ℕ) → p ≡ place_of n l.lives → cond (is_some p) Done (Refused 3) ≡ answer o plain l (Leave n)

@@ -19,6 +19,7 @@ use figures::Ring;
 #[derive(Drop)]
 pub struct Roster<'a, F: Ring> {
     cells: &'a mut [Cell<F::Plain>],
+    // Whatever was done, the cells hold a ledger.
     ghost held: { ∥ HoldSome F.Ring.ops F.Ring.plain cells.now ∥₁ },
 }
 

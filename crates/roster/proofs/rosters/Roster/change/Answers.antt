@@ -1,4 +1,5 @@
-use Rattle.roster.specs.Ledger.{Change, Done}
+use Rattle.roster.specs.Ledger.{Change}
+use Rattle.roster.specs.Passes.{altered}
 use Rattle.roster.proofs.Calls.{done_met, still}
 use Rattle.roster.proofs.rosters.Roster.change.Goals as goal
 
@@ -9,7 +10,6 @@ returns-clause-met g c =
 
 pub invariant_of-self : goal.invariant_of-self
 invariant_of-self g c = record {
-  held = still g.F.Ring.ops g.F.Ring.plain (Change c.args.number c.args.figure) c.args.self.now.cells.now Done c.alter.new.cells
-      (done_met g.F.Ring.ops g.F.Ring.plain (Change c.args.number c.args.figure) c.args.self.now.cells.now c.alter.new.cells (λ size l held.
-      let found = c.in_ok-k.ensures.found size l held in (found.0, c.alter.ensures size l c.args.number held found.1))) c.args.self.now.held;
+  held = still g.F.Ring.ops g.F.Ring.plain (λ l. altered l c.args.number c.args.figure) c.args.self.now.cells.now c.alter.new.cells
+      (λ size l held. c.alter.ensures size l c.args.number held (c.in_ok-k.ensures.found size l held).1) c.args.self.now.held;
 }

@@ -1,5 +1,4 @@
 use Rattle.std.proofs.Common.{◌≡◌, ◌-◌, ◌<◌, length, replicate, rules}
-use Rattle.roster.specs.Ledger.{Clear, Done}
 use Rattle.roster.specs.Cells.{zero_cell}
 use Rattle.roster.proofs.Calls.{clear_done, still}
 use Rattle.roster.proofs.rosters.Roster.clear.Goals as goal
@@ -14,4 +13,7 @@ pub invariant_of-self : goal.invariant_of-self
 invariant_of-self g c =
     let some : 0 < length c.args.self.now.cells.now = search rules in
     let is : c.wipe.new.cells ≡ replicate (length c.args.self.now.cells.now - 1) (zero_cell g.F.Ring.ops g.F.Ring.plain) = search rules in
-    record { held = still g.F.Ring.ops g.F.Ring.plain Clear c.args.self.now.cells.now Done _ (clear_done g.met.F.Ring.laws g.F.Ring.plain c.args.self.now.cells.now c.wipe.new.cells some is) c.args.self.now.held }
+    record {
+      held = still g.F.Ring.ops g.F.Ring.plain _ c.args.self.now.cells.now _
+          (λ size l held. (clear_done g.met.F.Ring.laws g.F.Ring.plain c.args.self.now.cells.now c.wipe.new.cells some is size l held).1) c.args.self.now.held;
+    }

@@ -1,4 +1,5 @@
-use Rattle.roster.specs.Ledger.{Leave, Done}
+use Rattle.roster.specs.Ledger.{Leave}
+use Rattle.roster.specs.Passes.{left}
 use Rattle.roster.proofs.Calls.{done_met, still}
 use Rattle.roster.proofs.rosters.Roster.leave.Goals as goal
 
@@ -9,7 +10,6 @@ returns-clause-met g c =
 
 pub invariant_of-self : goal.invariant_of-self
 invariant_of-self g c = record {
-  held = still g.F.Ring.ops g.F.Ring.plain (Leave c.args.number) c.args.self.now.cells.now Done c.take_out.new.cells
-      (done_met g.F.Ring.ops g.F.Ring.plain (Leave c.args.number) c.args.self.now.cells.now c.take_out.new.cells (λ size l held.
-      let found = c.in_ok-k.ensures.found size l held in (found.0, c.take_out.ensures size l c.args.number held found.1))) c.args.self.now.held;
+  held = still g.F.Ring.ops g.F.Ring.plain (λ l. left l c.args.number) c.args.self.now.cells.now c.take_out.new.cells
+      (λ size l held. c.take_out.ensures size l c.args.number held (c.in_ok-k.ensures.found size l held).1) c.args.self.now.held;
 }
