@@ -1,4 +1,3 @@
-use Rattle.std.proofs.Common.{◌+◌, drop, ap, ◌++◌}
 use Rattle.roster.proofs.Holding.{take_out_held}
 use Rattle.roster.proofs.edits.take_out.Goals as goal
 
@@ -6,4 +5,4 @@ pub returns : goal.returns
 returns g c size l number held found =
     take_out_held g.met.F.Ring.laws g.F.Ring.plain g.F.Ring.figure g.met.F.Ring.back size l number c.count-n.result c.args.place c.args.cells.now _ c.close_gap.new.cells
     c.index-cells-place.result c.from_plain-out.result held found (c.count-n.ensures.lives size l held) c.requires c.from_plain-out.ensures
-    (ap (λ cells. cells ++ drop (c.count-n.result + 1) c.args.cells.now) c.divide_out.ensures) c.close_gap.ensures
+    (cc) c.close_gap.ensures
