@@ -1,9 +1,7 @@
 -- Closing the gap that a life leaves, and wiping cells. Assumes nothing.
-use Rattle.std.proofs.Common.{◌≡◌, ℕ, ◌+◌, ◌-◌, ◌<◌, ◌≤◌, List, [], ◌∷◌, ◌++◌, map, length, get_or, take, drop, set, replicate, sym, refl, ap, ◌∙◌, subst, ap₂, append_assoc, append-nil, arith, length-append}
-use lib.ListN.{length-replicate}
-use Rattle.std.specs.List.{range_with_len}
+use Rattle.std.proofs.Common.{◌≡◌, ℕ, ◌+◌, ◌<◌, ◌≤◌, List, [], ◌∷◌, map, length, get_or, set, replicate, sym, refl, ap, ◌∙◌, subst, ap₂, arith}
+use Rattle.std.specs.List.{range_with_len, FoldsTo}
 use Rattle.std.proofs.lemmas.List.FromFn.{length-map-range_with_len}
-use Rattle.std.proofs.lemmas.List.{drop_more, drop_all, set_at, replicate_more, length-take-le, take-append-drop}
 use Rattle.roster.specs.Passes.{cell_of, cells_of, Ends, Closed}
 use Rattle.roster.specs.declared.cells.Cell.{Cell}
 use Rattle.roster.proofs.Laying.{up_to, get_or_up_to_from, pass_up, pass_below, pass_from}
@@ -21,55 +19,39 @@ module _ {P : Type 0} (z : P) (place n : ℕ) (before : List (Cell P)) where
       start ∙ sym (pass_below (cell_of kept sums left) (cell_of figures sums numbers) size place
       (λ k h _. same_cell (cell_of kept sums left k) (cell_of figures sums numbers k) (cf.before k h) refl (cn.before k h)))
 
-  pub closing_step : (cells : List (Cell P)) (k : ℕ) (cell above : Cell P) → place ≤ k → k + 1 < length cells → cell ≡ get_or cells k cell → above ≡ get_or cells (k + 1) above
-      → Closing z place n before k cells → Closing z place n before (k + 1) (set cells k (record { figure = above.figure; sum = cell.sum; number = above.number }))
-  closing_step cells k cell above from within rc ra inv size figures kept sums numbers left ef en cf cn start =
+  pub closing_step : (cells : List (Cell P)) (k : ℕ) (above e : Cell P) → place ≤ k → k + 1 < length cells → above ≡ get_or cells (k + 1) above → Closing z place n before k cells
+      → Closing z place n before (k + 1) (set cells k (record { figure = above.figure; sum = (get_or cells k e).sum; number = above.number }))
+  closing_step cells k above e from within read inv size figures kept sums numbers left ef en cf cn start =
       let f : ℕ → Cell P = cell_of kept sums left in
       let g : ℕ → Cell P = cell_of figures sums numbers in
       let is : cells ≡ map (up_to k f g) (range_with_len 0 size) = inv size figures kept sums numbers left ef en cf cn start in
       let sized : length cells ≡ size = ap length is ∙ length-map-range_with_len (up_to k f g) 0 size in
-      let cell-is : cell ≡ g k = rc ∙ ap (λ xs. get_or xs k cell) is ∙ get_or_up_to_from f g size k k cell (omega arith) (omega arith) in
-      let above-is : above ≡ g (k + 1) = ra ∙ ap (λ xs. get_or xs (k + 1) above) is ∙ get_or_up_to_from f g size k (k + 1) above (omega arith) (omega arith) in
-      ap (λ xs. set xs k (record { figure = above.figure; sum = cell.sum; number = above.number })) is
-      ∙ pass_up f g size k _ (same_cell (record { figure = above.figure; sum = cell.sum; number = above.number }) (f k)
-      (ap (λ c. c.figure) above-is ∙ sym (cf.after k from)) (ap (λ c. c.sum) cell-is) (ap (λ c. c.number) above-is ∙ sym (cn.after k from)))
+      let cell-is : get_or cells k e ≡ g k = ap (λ xs. get_or xs k e) is ∙ get_or_up_to_from f g size k k e (omega arith) (omega arith) in
+      let above-is : above ≡ g (k + 1) = read ∙ ap (λ xs. get_or xs (k + 1) above) is ∙ get_or_up_to_from f g size k (k + 1) above (omega arith) (omega arith) in
+      ap₂ (λ xs c. set xs k c) is (same_cell _ (f k) (ap (λ c. c.figure) above-is ∙ sym (cf.after k from)) (ap (λ c. c.sum) cell-is) (ap (λ c. c.number) above-is ∙ sym (cn.after k from)))
+      ∙ pass_up f g size k (f k) refl
 
-  pub closing_end : (cells : List (Cell P)) (k : ℕ) (last : Cell P) (figure : P) → k ≡ n → place ≤ n → n < length cells → last ≡ get_or cells n last → figure ≡ z
+  pub closing_end : (cells : List (Cell P)) (k : ℕ) (e : Cell P) (figure : P) → k ≡ n → place ≤ n → n < length cells → figure ≡ z
       → Closing z place n before k cells → (size : ℕ) (figures kept sums : ℕ → P) (numbers left : ℕ → ℕ)
       → Ends n z figures → Ends n 0 numbers → Closed place figures kept → Closed place numbers left → before ≡ cells_of size figures sums numbers
-      → set cells n (record { figure = figure; sum = last.sum; number = 0 }) ≡ cells_of size kept sums left
-  closing_end cells k last figure here from within rl rz inv size figures kept sums numbers left ef en cf cn start =
+      → set cells n (record { figure = figure; sum = (get_or cells n e).sum; number = 0 }) ≡ cells_of size kept sums left
+  closing_end cells k e figure here from within rz inv size figures kept sums numbers left ef en cf cn start =
       let f : ℕ → Cell P = cell_of kept sums left in
       let g : ℕ → Cell P = cell_of figures sums numbers in
       let is : cells ≡ map (up_to n f g) (range_with_len 0 size) = inv size figures kept sums numbers left ef en cf cn start ∙ ap (λ i. map (up_to i f g) (range_with_len 0 size)) here in
       let sized : length cells ≡ size = ap length is ∙ length-map-range_with_len (up_to n f g) 0 size in
-      let last-is : last ≡ g n = rl ∙ ap (λ xs. get_or xs n last) is ∙ get_or_up_to_from f g size n n last (omega arith) (omega arith) in
-      ap (λ xs. set xs n (record { figure = figure; sum = last.sum; number = 0 })) is
-      ∙ pass_up f g size n _ (same_cell (record { figure = figure; sum = last.sum; number = 0 }) (f n)
-      (rz ∙ sym (ef (n + 1) (omega arith)) ∙ sym (cf.after n from)) (ap (λ c. c.sum) last-is) (sym (en (n + 1) (omega arith)) ∙ sym (cn.after n from)))
+      let last-is : get_or cells n e ≡ g n = ap (λ xs. get_or xs n e) is ∙ get_or_up_to_from f g size n n e (omega arith) (omega arith) in
+      ap₂ (λ xs c. set xs n c) is (same_cell _ (f n) (rz ∙ sym (ef (n + 1) (omega arith)) ∙ sym (cf.after n from)) (ap (λ c. c.sum) last-is) (sym (en (n + 1) (omega arith)) ∙ sym (cn.after n from)))
+      ∙ pass_up f g size n (f n) refl
       ∙ pass_from f g size (n + 1) (λ j h _. same_cell (g j) (f j)
       (ef j (omega arith) ∙ sym (ef (j + 1) (omega arith)) ∙ sym (cf.after j (omega arith))) refl (en j (omega arith) ∙ sym (en (j + 1) (omega arith)) ∙ sym (cn.after j (omega arith))))
 
--- Wiped below k, from a place on.
-abbrev pub wiped : {X : Type 0} → X → List X → ℕ → ℕ → List X
-wiped z xs place k = (take place xs ++ replicate (k - place) z) ++ drop k xs
+-- What calls of a closure that gives x each time have filled a list with.
+filled_all : {F X : Type 0} (R : F → X → F → Type 0) (x : X) (f : F) → ((y : X) (f' : F) → R f y f' → (y ≡ x) × (f' ≡ f)) → (ys : List X) (last : F) → FoldsTo R f ys last → ys ≡ replicate (length ys) x
+filled_all R x f gives [] last ran = refl
+filled_all R x f gives (y ∷ ys) last ran =
+    let one : (y ≡ x) × (ran.0 ≡ f) = gives y ran.0 ran.1 in
+    ap₂ ◌∷◌ one.0 (filled_all R x f gives ys last (subst (λ j. FoldsTo R j ys last) one.1 ran.2))
 
-module _ {X : Type 0} (z : X) (xs : List X) (place : ℕ) (within : place ≤ length xs) where
-  pub wiped_start : xs ≡ wiped z xs place place
-  wiped_start =
-      let none : 0 ≡ place - place = omega arith in
-      subst (λ m. xs ≡ (take place xs ++ replicate m z) ++ drop place xs) none (sym (ap (λ ys. ys ++ drop place xs) (append-nil (take place xs)) ∙ take-append-drop place xs))
-
-  pub wiped_step : (cells : List X) (k : ℕ) (y : X) → place ≤ k → k < length xs → y ≡ z → cells ≡ wiped z xs place k → set cells k y ≡ wiped z xs place (k + 1)
-  wiped_step cells k y from inside e is =
-      let m : k + 1 - place ≡ k - place + 1 = omega arith in
-      let front : List X = take place xs ++ replicate (k - place) z in
-      let long : length front ≡ k = length-append (take place xs) (replicate (k - place) z) ∙ ap₂ ◌+◌ (length-take-le place xs within) (length-replicate (k - place) z) ∙ omega arith in
-      ap₂ (λ ys w. set ys k w) (is ∙ ap (λ ys. front ++ ys) (drop_more xs k z inside)) e
-      ∙ set_at front (get_or xs k z) (drop (k + 1) xs) z k long
-      ∙ sym (append_assoc front (z ∷ []) (drop (k + 1) xs))
-      ∙ ap (λ ys. ys ++ drop (k + 1) xs) (append_assoc (take place xs) (replicate (k - place) z) (z ∷ []) ∙ ap (λ ys. take place xs ++ ys) (replicate_more (k - place) z ∙ ap (λ i. replicate i z) (sym m)))
-
-  pub wiped_end : (cells : List X) (k : ℕ) → k ≡ length xs → cells ≡ wiped z xs place k → cells ≡ take place xs ++ replicate (length xs - place) z
-  wiped_end cells k e is =
-      is ∙ ap (λ ys. (take place xs ++ replicate (k - place) z) ++ ys) (drop_all k xs (omega arith)) ∙ append-nil (take place xs ++ replicate (k - place) z) ∙ ap (λ i. take place xs ++ replicate (i - place) z) e
+pub filled : {F X : Type 0} (R : F → X → F → Type 0) (x : X) (f : F) → ((y : X) (f' : F) → R f y f' → (y ≡ x) × (f' ≡ f)) → (ys : List X) (n : ℕ) → length ys ≡ n → (last : F) × FoldsTo R f ys last → ys ≡ replicate n x
+filled R x f gives ys n long ran = filled_all R x f gives ys ran.0 ran.1 ∙ ap (λ i. replicate i x) long

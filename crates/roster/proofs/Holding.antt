@@ -1,21 +1,21 @@
 -- What the passes leave where the cells held a ledger. Assumes nothing.
-use Rattle.std.proofs.Common.{◌≡◌, ℕ, zero, suc, ◌+◌, ◌-◌, ◌<◌, ◌≤◌, ◌≢◌, List, [], ◌∷◌, ◌++◌, map, length, get_or, take, set, replicate, Some, sym, refl, ap, ◌∙◌, subst, ap₂, append-nil, zero-add, add-one, arith, length-append}
+use Rattle.std.proofs.Common.{◌≡◌, ℕ, zero, suc, ◌+◌, ◌-◌, ◌<◌, ◌≤◌, ◌≢◌, List, [], ◌∷◌, ◌++◌, map, length, get_or, take, drop, set, replicate, Some, sym, refl, ap, ◌∙◌, subst, ap₂, append-nil, zero-add, add-one, arith, length-append}
 use mathlib.Core.List.{map-append}
 use lib.ListN.{length-map}
 use Rattle.std.specs.List.{range_with_len, AllByRecursion}
 use Rattle.std.proofs.lemmas.List.FromFn.{length-map-range_with_len, get_or-map-range_with_len}
 use Rattle.std.proofs.ByRecursion.{All-push}
-use Rattle.std.proofs.lemmas.List.{get_or_past, get_or_at, length_push, nil_from_length}
+use Rattle.std.proofs.lemmas.List.{get_or_past, get_or_at, length_push}
 use Rattle.algebra.specs.Ring.{Ops, Laws}
 use Rattle.algebra.specs.Sums.{elementary}
 use Rattle.algebra.proofs.Rows.{set_map_counting, map_counting_constant}
 use Rattle.algebra.proofs.Elementary.{elementary_zero, elementary_suc_at, elementary_suc_nil, elementary_beyond}
 use Rattle.roster.specs.Ledger.{Member, Ledger, figures, numbers, place_of}
 use Rattle.roster.specs.Cells.{cell_at, laid, Holds, zero_cell}
-use Rattle.roster.specs.Passes.{cell_of, cells_of, Ends, Multiplied, Closed, joined, left, altered}
+use Rattle.roster.specs.Passes.{multiplied, divided, exchanged, cell_of, cells_of, Ends, Closed, joined, left, altered}
 use Rattle.roster.specs.declared.cells.Cell.{Cell}
 use Rattle.roster.proofs.Places.{Around, around}
-use Rattle.roster.proofs.Sums.{same_cell}
+use Rattle.roster.proofs.Sums.{same_cell, Multiplied, multiplied_front, divided_front, exchanged_front}
 
 -- Lists that differ at one place, or by one element.
 module _ {X : Type 0} (x : X) (e : X) where
@@ -118,48 +118,49 @@ module _ {F P : Type 0} {o : Ops F} (L : Laws o) (plain : F → P) where
   figures_end d lives n same k h = ap plain (field_ends (λ m. m.figure) d o.zero lives n same k h)
 
   -- What is read from such cells.
-  read_cell : (size : ℕ) (f : ℕ → Cell P) (cells : List (Cell P)) (k : ℕ) (cell : Cell P) → k < length cells → cells ≡ map f (range_with_len 0 size) → cell ≡ get_or cells k cell → cell ≡ f k
-  read_cell size f cells k cell h is read =
-      let sized : length cells ≡ size = ap length is ∙ length-map-range_with_len f 0 size in
-      read ∙ ap (λ xs. get_or xs k cell) is ∙ get_or-map-range_with_len f 0 size k k cell (omega arith) (zero-add k)
+  read_cell : (size : ℕ) (f : ℕ → Cell P) (cells : List (Cell P)) (k : ℕ) (e : Cell P) → k < size → cells ≡ map f (range_with_len 0 size) → get_or cells k e ≡ f k
+  read_cell size f cells k e h is = ap (λ xs. get_or xs k e) is ∙ get_or-map-range_with_len f 0 size k k e h (zero-add k)
 
-  pub put_in_held : (size : ℕ) (l : Ledger F) (n number : ℕ) (x : F) (before after : List (Cell P)) (free : Cell P) (y : P)
-      → Holds o plain size l before → n ≡ length l.lives → n < l.capacity → number ≢ 0 → n + 1 < length after
-      → ((size : ℕ) (figures : ℕ → P) (numbers : ℕ → ℕ) (old new : ℕ → F) → Ends n o.zero old → Multiplied o x old new → before ≡ cells_of size figures (λ k. plain (old k)) numbers → after ≡ cells_of size figures (λ k. plain (new k)) numbers)
-      → free ≡ get_or after (n + 1) free → y ≡ plain x
-      → Holds o plain size (joined l number x) (set after (n + 1) (record { figure = y; sum = free.sum; number = number }))
-  put_in_held size l n number x before after free y held counted room some within pass read written =
+  pub put_in_held : (figure : P → F) → ((x : F) → figure (plain x) ≡ x) → (size : ℕ) (l : Ledger F) (n number : ℕ) (x : F) (before after : List (Cell P)) (e : Cell P) (y : P)
+      → Holds o plain size l before → n ≡ length l.lives → n < l.capacity → number ≢ 0
+      → after ≡ multiplied o plain figure x (take (n + 2) before) ++ drop (n + 2) before → y ≡ plain x
+      → Holds o plain size (joined l number x) (set after (n + 1) (record { figure = y; sum = (get_or after (n + 1) e).sum; number = number }))
+  put_in_held figure back size l n number x before after e y held counted room some pass written =
       let lives : List (Member F) = l.lives in
       let m : Member F = record { number = number; figure = x } in
       let more : List (Member F) = lives ++ (m ∷ []) in
       let here : n + 1 ≡ length lives + 1 = ap (λ i. i + 1) counted in
       let f : ℕ → Cell P = cell_of (figure_at l.whole lives) (λ k. plain (sums_of L more k)) (number_at lives) in
-      let after_is : after ≡ map f (range_with_len 0 size) = pass size (figure_at l.whole lives) (number_at lives) (sums_of L lives) (sums_of L more) (sums_end L lives n (omega arith)) (sums_pushed L lives m) held.are in
-      let free-is : free ≡ f (n + 1) = read_cell size f after (n + 1) free within after_is read in
-      let cell : Cell P = record { figure = y; sum = free.sum; number = number } in
+      let within : n + 1 < size = omega (arith, held.room) in
+      let after_is : after ≡ map f (range_with_len 0 size) =
+      pass ∙ ap (λ cells. multiplied o plain figure x (take (n + 2) cells) ++ drop (n + 2) cells) held.are
+      ∙ multiplied_front L plain figure back (figure_at l.whole lives) (number_at lives) x size n (sums_of L lives) (sums_of L more) within (sums_end L lives n (omega arith)) (sums_pushed L lives m) in
+      let cell : Cell P = record { figure = y; sum = (get_or after (n + 1) e).sum; number = number } in
       record {
         room = held.room;
         few = omega (arith, length_push lives m);
         numbered = All-push (λ m. m.number ≢ 0) lives m held.numbered some;
         are = ap (λ xs. set xs (n + 1) cell) after_is
             ∙ set_map_counting f (cell_at o plain l.whole more) size (n + 1) cell
-            (same_cell cell (cell_at o plain l.whole more (n + 1)) (written ∙ ap plain (sym (field_at_lem (λ m. m.figure) l.whole o.zero lives m [] (n + 1) here))) (ap (λ c. c.sum) free-is) (sym (field_at_lem (λ m. m.number) 0 0 lives m [] (n + 1) here)))
+            (same_cell cell (cell_at o plain l.whole more (n + 1)) (written ∙ ap plain (sym (field_at_lem (λ m. m.figure) l.whole o.zero lives m [] (n + 1) here)))
+            (ap (λ c. c.sum) (read_cell size f after (n + 1) e within after_is)) (sym (field_at_lem (λ m. m.number) 0 0 lives m [] (n + 1) here)))
             (λ k h ne. same_cell (f k) (cell_at o plain l.whole more k) (ap plain (field_pushed (λ m. m.figure) l.whole o.zero lives m n k counted ne)) refl (field_pushed (λ m. m.number) 0 0 lives m n k counted ne));
       }
 
   -- The figure of the life at a place, as it is read back.
-  read_figure : (figure : P → F) → ((x : F) → figure (plain x) ≡ x) → (size : ℕ) (d : F) (bs : List (Member F)) (m : Member F) (cs : List (Member F)) (place : ℕ) (before : List (Cell P)) (life : Cell P) (p : F)
-      → place ≡ length bs + 1 → place < length before → before ≡ laid o plain size d (bs ++ (m ∷ cs)) → life ≡ get_or before place life → p ≡ figure life.figure → p ≡ m.figure
-  read_figure figure back size d bs m cs place before life p here within are read is =
-      is ∙ ap (λ c. figure c.figure) (read_cell size (cell_at o plain d (bs ++ (m ∷ cs))) before place life within are read)
+  read_figure : (figure : P → F) → ((x : F) → figure (plain x) ≡ x) → (size : ℕ) (d : F) (bs : List (Member F)) (m : Member F) (cs : List (Member F)) (place : ℕ) (before : List (Cell P)) (e : Cell P) (p : F)
+      → place ≡ length bs + 1 → place < length before → before ≡ laid o plain size d (bs ++ (m ∷ cs)) → p ≡ figure (get_or before place e).figure → p ≡ m.figure
+  read_figure figure back size d bs m cs place before e p here within are is =
+      let sized : length before ≡ size = ap length are ∙ length-map-range_with_len (cell_at o plain d (bs ++ (m ∷ cs))) 0 size in
+      is ∙ ap (λ c. figure c.figure) (read_cell size (cell_at o plain d (bs ++ (m ∷ cs))) before place e (omega arith) are)
       ∙ back _ ∙ field_at_lem (λ m. m.figure) d o.zero bs m cs place here
 
-  pub take_out_held : (figure : P → F) → ((x : F) → figure (plain x) ≡ x) → (size : ℕ) (l : Ledger F) (number n place : ℕ) (before mid after : List (Cell P)) (life : Cell P) (p : F)
-      → Holds o plain size l before → place_of number l.lives ≡ Some place → n ≡ length l.lives → place < length before → life ≡ get_or before place life → p ≡ figure life.figure
-      → ((size : ℕ) (figures : ℕ → P) (numbers : ℕ → ℕ) (old new : ℕ → F) → Ends n o.zero old → Ends n o.zero new → Multiplied o p new old → before ≡ cells_of size figures (λ k. plain (old k)) numbers → mid ≡ cells_of size figures (λ k. plain (new k)) numbers)
+  pub take_out_held : (figure : P → F) → ((x : F) → figure (plain x) ≡ x) → (size : ℕ) (l : Ledger F) (number n place : ℕ) (before mid after : List (Cell P)) (e : Cell P) (p : F)
+      → Holds o plain size l before → place_of number l.lives ≡ Some place → n ≡ length l.lives → place < length before → p ≡ figure (get_or before place e).figure
+      → mid ≡ divided o plain figure p (take (n + 1) before) ++ drop (n + 1) before
       → (place ≤ n → (size : ℕ) (figures kept sums : ℕ → P) (numbers left : ℕ → ℕ) → Ends n (plain o.zero) figures → Ends n 0 numbers → Closed place figures kept → Closed place numbers left → mid ≡ cells_of size figures sums numbers → after ≡ cells_of size kept sums left)
       → Holds o plain size (left l number) after
-  take_out_held figure back size l number n place before mid after life p held found counted within read is divide close =
+  take_out_held figure back size l number n place before mid after e p held found counted within is divide close =
       let a : Around number l.lives place = around number l.lives place found in
       let bs : List (Member F) = a.before in
       let m : Member F = a.life in
@@ -170,10 +171,12 @@ module _ {F P : Type 0} {o : Ops F} (L : Laws o) (plain : F → P) where
       let long : length all ≡ length bs + (length cs + 1) = length-append bs (m ∷ cs) ∙ ap (λ i. length bs + i) (sym (add-one (length cs))) in
       let short : length rest ≡ length bs + length cs = length-append bs cs in
       let are : before ≡ laid o plain size l.whole all = held.are ∙ ap (laid o plain size l.whole) a.are in
-      let out : p ≡ m.figure = read_figure figure back size l.whole bs m cs place before life p a.here within are read is in
+      let sized : length before ≡ size = ap length are ∙ length-map-range_with_len (cell_at o plain l.whole all) 0 size in
+      let room : n < size = omega (arith, held.few, held.room) in
+      let out : p ≡ m.figure = read_figure figure back size l.whole bs m cs place before e p a.here within are is in
       let mid-is : mid ≡ cells_of size (figure_at l.whole all) (λ k. plain (sums_of L rest k)) (number_at all) =
-      divide size (figure_at l.whole all) (number_at all) (sums_of L all) (sums_of L rest) (sums_end L all n (omega arith)) (sums_end L rest n (omega arith))
-      (subst (λ q. Multiplied o q (sums_of L rest) (sums_of L all)) (sym out) (sums_at L bs m cs)) are in
+      divide ∙ ap₂ (λ q cells. divided o plain figure q (take (n + 1) cells) ++ drop (n + 1) cells) out are
+      ∙ divided_front L plain figure back (figure_at l.whole all) (number_at all) m.figure size n (sums_of L all) (sums_of L rest) room (sums_end L all n (omega arith)) (sums_end L rest n (omega arith)) (sums_at L bs m cs) in
       let after_is : after ≡ laid o plain size l.whole rest =
       close (omega (arith, a.here)) size (figure_at l.whole all) (figure_at l.whole rest) (λ k. plain (sums_of L rest k)) (number_at all) (number_at rest)
       (figures_end l.whole all n many) (field_ends (λ m. m.number) 0 0 all n many)
@@ -185,12 +188,12 @@ module _ {F P : Type 0} {o : Ops F} (L : Laws o) (plain : F → P) where
         are = after_is ∙ ap (laid o plain size l.whole) (sym a.gone);
       }
 
-  pub alter_held : (figure : P → F) → ((x : F) → figure (plain x) ≡ x) → (size : ℕ) (l : Ledger F) (number n place : ℕ) (before after : List (Cell P)) (life again : Cell P) (p x : F) (y : P)
-      → Holds o plain size l before → place_of number l.lives ≡ Some place → n ≡ length l.lives → place < length before → place < length after → life ≡ get_or before place life → p ≡ figure life.figure
-      → ((size : ℕ) (figures : ℕ → P) (numbers : ℕ → ℕ) (old mid new : ℕ → F) → Ends n o.zero old → Ends n o.zero new → mid 0 ≡ o.one → Multiplied o p mid old → Multiplied o x mid new → before ≡ cells_of size figures (λ k. plain (old k)) numbers → after ≡ cells_of size figures (λ k. plain (new k)) numbers)
-      → again ≡ get_or after place again → y ≡ plain x
-      → Holds o plain size (altered l number x) (set after place (record { figure = y; sum = again.sum; number = again.number }))
-  alter_held figure back size l number n place before after life again p x y held found counted within within' read is exchange reread written =
+  pub alter_held : (figure : P → F) → ((x : F) → figure (plain x) ≡ x) → (size : ℕ) (l : Ledger F) (number n place : ℕ) (before after : List (Cell P)) (e e' : Cell P) (p x : F) (y : P)
+      → Holds o plain size l before → place_of number l.lives ≡ Some place → n ≡ length l.lives → place < length before → p ≡ figure (get_or before place e).figure
+      → after ≡ exchanged o plain figure p x (take (n + 1) before) ++ drop (n + 1) before
+      → y ≡ plain x
+      → Holds o plain size (altered l number x) (set after place (record { figure = y; sum = (get_or after place e').sum; number = (get_or after place e').number }))
+  alter_held figure back size l number n place before after e e' p x y held found counted within is exchange written =
       let a : Around number l.lives place = around number l.lives place found in
       let bs : List (Member F) = a.before in
       let m : Member F = a.life in
@@ -201,12 +204,15 @@ module _ {F P : Type 0} {o : Ops F} (L : Laws o) (plain : F → P) where
       let many : n ≡ length all = counted ∙ ap length a.are in
       let long : length new ≡ length all = length-append bs (m' ∷ cs) ∙ sym (length-append bs (m ∷ cs)) in
       let are : before ≡ laid o plain size l.whole all = held.are ∙ ap (laid o plain size l.whole) a.are in
-      let out : p ≡ m.figure = read_figure figure back size l.whole bs m cs place before life p a.here within are read is in
+      let sized : length before ≡ size = ap length are ∙ length-map-range_with_len (cell_at o plain l.whole all) 0 size in
+      let room : n < size = omega (arith, held.few, held.room) in
+      let out : p ≡ m.figure = read_figure figure back size l.whole bs m cs place before e p a.here within are is in
       let f : ℕ → Cell P = cell_of (figure_at l.whole all) (λ k. plain (sums_of L new k)) (number_at all) in
       let after_is : after ≡ map f (range_with_len 0 size) =
-      exchange size (figure_at l.whole all) (number_at all) (sums_of L all) (sums_of L (bs ++ cs)) (sums_of L new) (sums_end L all n (omega arith)) (sums_end L new n (omega arith)) (elementary_zero L (figures (bs ++ cs)))
-      (subst (λ q. Multiplied o q (sums_of L (bs ++ cs)) (sums_of L all)) (sym out) (sums_at L bs m cs)) (sums_at L bs m' cs) are in
-      let again-is : again ≡ f place = read_cell size f after place again within' after_is reread in
+      exchange ∙ ap₂ (λ q cells. exchanged o plain figure q x (take (n + 1) cells) ++ drop (n + 1) cells) out are
+      ∙ exchanged_front L plain figure back (figure_at l.whole all) (number_at all) m.figure x size n (sums_of L all) (sums_of L (bs ++ cs)) (sums_of L new) room (sums_end L all n (omega arith)) (sums_end L new n (omega arith)) (sums_at L bs m cs) (sums_at L bs m' cs) in
+      let again : Cell P = get_or after place e' in
+      let again-is : again ≡ f place = read_cell size f after place e' (omega arith) after_is in
       let cell : Cell P = record { figure = y; sum = again.sum; number = again.number } in
       let number_is : again.number ≡ number_at new place =
       ap (λ c. c.number) again-is ∙ field_at_lem (λ m. m.number) 0 0 bs m cs place a.here ∙ a.named ∙ sym (field_at_lem (λ m. m.number) 0 0 bs m' cs place a.here) in
@@ -234,15 +240,10 @@ module _ {F P : Type 0} {o : Ops F} (L : Laws o) (plain : F → P) where
   laid_none : (n : ℕ) (d : F) (first : Cell P) → first ≡ cell_at o plain d [] 0 → first ∷ replicate n (zero_cell o plain) ≡ laid o plain (suc n) d []
   laid_none n d first e = ap₂ ◌∷◌ e (sym (map_counting_constant (cell_at o plain d []) (zero_cell o plain) 1 n (laid_past d)))
 
-  pub opened_some : (size : ℕ) (d : F) (cells : List (Cell P)) (first : Cell P) → 0 < size → cells ≡ replicate (size - 0) (zero_cell o plain)
+  pub opened_some : (size : ℕ) (d : F) (cells : List (Cell P)) (first : Cell P) → 0 < size → cells ≡ replicate size (zero_cell o plain)
       → first.figure ≡ plain d → first.sum ≡ plain o.one → first.number ≡ 0 → set cells 0 first ≡ laid o plain size d []
   opened_some zero d cells first h is f s n = absurd (omega arith)
-  opened_some (suc m) d cells first h is f s n =
-      let all : suc m - 0 ≡ suc m = omega arith in
-      ap (λ xs. set xs 0 first) (is ∙ ap (λ i. replicate i (zero_cell o plain)) all) ∙ laid_none m d first (laid_first d [] first f s n)
-
-  pub opened_none : (size : ℕ) (d : F) (cells : List (Cell P)) → size ≡ 0 → length cells ≤ 0 → cells ≡ laid o plain size d []
-  opened_none size d cells e h = nil_from_length cells (omega arith) ∙ ap (λ n. laid o plain n d []) (sym e)
+  opened_some (suc m) d cells first h is f s n = ap (λ xs. set xs 0 first) is ∙ laid_none m d first (laid_first d [] first f s n)
 
   pub cleared_laid : (size : ℕ) (d : F) (lives : List (Member F)) → 0 < size → take 1 (laid o plain size d lives) ++ replicate (size - 1) (zero_cell o plain) ≡ laid o plain size d []
   cleared_laid zero d lives h = absurd (omega arith)

@@ -1,19 +1,16 @@
 -- Reading and writing cells that are laid out from a ledger. Assumes nothing.
-use Rattle.std.proofs.Common.{◌≡◌, ℕ, zero, suc, ◌+◌, ◌<◌, ◌≤◌, cond, ltb, ◌≢◌, ◌⊎◌, List, [], ◌∷◌, map, length, get_or, set, sym, ap, ◌∙◌, inl, inr, zero-add, add-one, arith}
+use Rattle.std.proofs.Common.{◌≡◌, ℕ, zero, suc, ◌+◌, ◌-◌, ◌<◌, ◌≤◌, min, not, cond, eqb, ltb, ◌≢◌, ◌⊎◌, List, [], ◌∷◌, map, length, get_or, take, drop, set, sym, ap, ◌∙◌, inl, inr, zero-add, add-one, arith, length-drop}
 use lib.ListN.{length-map}
-use Rattle.std.specs.List.{range_with_len, AllByRecursion}
+use Rattle.std.specs.List.{range_with_len, prefix_len, AllByRecursion}
 use Rattle.std.proofs.lemmas.List.FromFn.{length-map-range_with_len, get_or-map-range_with_len}
-use Rattle.std.proofs.lemmas.List.{get_or_past}
-use Rattle.std.proofs.lemmas.Bool.{cases_lt, lt-ltb, le-ltb, cond-true, cond-false}
+use Rattle.std.proofs.lemmas.List.{get_or_past, get_or_default, get_or-map, get_or-take, get_or-drop, length-take, same_lists}
+use Rattle.std.proofs.lemmas.List.Sums.{prefix_len_is}
+use Rattle.std.proofs.lemmas.Bool.{eq-eqb, ne_eqb, cases_lt, lt-ltb, le-ltb, cond-true, cond-false}
 use Rattle.algebra.specs.Ring.{Ops}
 use Rattle.algebra.proofs.Rows.{map_counting_same, set_map_counting}
 use Rattle.roster.specs.Ledger.{Member, Ledger, numbers}
 use Rattle.roster.specs.Cells.{cell_at, laid, Holds}
 use Rattle.roster.specs.declared.cells.Cell.{Cell}
-
--- The numbers that stand in cells 1, 2, …, n.
-abbrev pub NumberedUpTo : {P : Type 0} → List (Cell P) → ℕ → Type 0
-NumberedUpTo {P} cells n = (k : ℕ) (e : Cell P) → k < n → (get_or cells (k + 1) e).number ≢ 0
 
 -- A life's number is not zero, and past the last life stands zero.
 pub number_some : {F : Type 0} (lives : List (Member F)) → AllByRecursion (λ m. m.number ≢ 0) lives → (k : ℕ) → k < length lives → get_or (0 ∷ numbers lives) (k + 1) 0 ≢ 0
@@ -46,28 +43,36 @@ module _ {F P : Type 0} {o : Ops F} {plain : F → P} {size : ℕ} {l : Ledger F
   pub lives_within : 0 < length l.lives → length l.lives < size
   lives_within h = omega (arith, held.few, held.room)
 
-  -- The scan stops at the number of lives, at which there is no cell, or one without a number.
-  pub scan_held : (n : ℕ) → (0 < n → n < length cells) → NumberedUpTo cells n
-      → (n < 64 → n + 1 < length cells → (e : Cell P) → (get_or cells (n + 1) e).number ≡ 0) → n ≡ length l.lives
-  scan_held n within numbered stops = omega (arith, low (cases_lt (length l.lives) n), high (cases_lt n (length l.lives)))
-    where
-      some : Cell P
-      some = cell_at o plain l.whole l.lives 0
+  -- The numbers that stand in cells 1, 2, …, n.
+  pub number_read : (n k : ℕ) (e : Cell P) → k < n → k + 1 < size → (get_or (take n (drop 1 cells)) k e).number ≡ get_or (0 ∷ numbers l.lives) (k + 1) 0
+  number_read n k e within inside =
+      let same : 1 + k ≡ k + 1 = omega arith in
+      ap (λ cell. cell.number) (get_or-take n (drop 1 cells) k e within ∙ get_or-drop 1 cells k e ∙ ap (λ i. get_or cells i e) same ∙ get_or_held (k + 1) e inside)
 
-      number_at : (k : ℕ) → k < size → (get_or cells k some).number ≡ get_or (0 ∷ numbers l.lives) k 0
-      number_at k h = ap (λ cell. cell.number) (get_or_held k some h)
+  -- The count stops at the number of lives, at which there is no cell, or one without a number.
+  pub counted : prefix_len (λ cell. not (eqb cell.number 0)) (take 64 (drop 1 cells)) ≡ length l.lives
+  counted =
+      let room : length (take 64 (drop 1 cells)) ≡ min 64 (length cells - 1) = length-take 64 (drop 1 cells) ∙ ap (min 64) (length-drop 1 cells) in
+      let e : Cell P = cell_at o plain l.whole l.lives 0 in
+      prefix_len_is (λ cell. not (eqb cell.number 0)) (take 64 (drop 1 cells)) (length l.lives) e (omega (arith, held.few, held.room, length_held))
+      (λ k h. ap not (ne_eqb (get_or (take 64 (drop 1 cells)) k e).number 0 (λ z.
+      number_some l.lives held.numbered k h (sym (number_read 64 k e (omega (arith, lives_held)) (omega (arith, lives_within (omega arith)))) ∙ z))))
+      (λ h. ap not (eq-eqb (get_or (take 64 (drop 1 cells)) (length l.lives) e).number 0
+      (number_read 64 (length l.lives) e (omega arith) (omega (arith, length_held)) ∙ number_none l.lives (length l.lives) (omega arith))))
 
-      low : (length l.lives < n) ⊎ (n ≤ length l.lives) → n ≤ length l.lives
-      low (inl h) =
-          let inside : n < size = omega (arith, length_held, within (omega arith)) in
-          absurd (numbered (length l.lives) some h (number_at (length l.lives + 1) (omega arith) ∙ number_none l.lives (length l.lives) (omega arith)))
-      low (inr h) = h
-
-      high : (n < length l.lives) ⊎ (length l.lives ≤ n) → length l.lives ≤ n
-      high (inl h) =
-          let inside : n + 1 < size = omega (arith, lives_within (omega arith)) in
-          absurd (number_some l.lives held.numbered n h (sym (number_at (n + 1) inside) ∙ stops (omega (arith, lives_held)) (omega (arith, length_held)) some))
-      high (inr h) = h
+  -- The numbers of the lives, in their cells.
+  pub numbers_held : map (λ cell. cell.number) (take (length l.lives) (drop 1 cells)) ≡ numbers l.lives
+  numbers_held =
+      let e : Cell P = cell_at o plain l.whole l.lives 0 in
+      let room : length (take (length l.lives) (drop 1 cells)) ≡ min (length l.lives) (length cells - 1) = length-take (length l.lives) (drop 1 cells) ∙ ap (min (length l.lives)) (length-drop 1 cells) in
+      let long : length (take (length l.lives) (drop 1 cells)) ≡ length l.lives = omega (arith, held.few, held.room, length_held) in
+      let cells_many = length-map (take (length l.lives) (drop 1 cells)) (λ (cell : Cell P). cell.number) in
+      let lives_many = length-map l.lives (λ (m : Member F). m.number) in
+      same_lists (map (λ cell. cell.number) (take (length l.lives) (drop 1 cells))) (numbers l.lives) (cells_many ∙ long ∙ sym lives_many)
+      (λ k d h.
+      get_or-map (λ cell. cell.number) (take (length l.lives) (drop 1 cells)) k e d (omega arith)
+      ∙ number_read (length l.lives) k e (omega arith) (omega (arith, lives_within (omega arith)))
+      ∙ ap (λ i. get_or (0 ∷ numbers l.lives) i 0) (add-one k) ∙ get_or_default (numbers l.lives) k 0 d (omega arith))
 
 -- A pass under way: below r as f says, from r on as g says.
 abbrev pub up_to : {X : Type 0} → ℕ → (ℕ → X) → (ℕ → X) → ℕ → X
@@ -87,18 +92,12 @@ module _ {X : Type 0} (f g : ℕ → X) where
       at (inl h) = up_to_below r k h ∙ sym (up_to_below (r + 1) k (omega arith))
       at (inr h) = up_to_from r k h ∙ sym (up_to_from (r + 1) k (omega arith))
 
-  pub get_or_up_to_below : (size r k : ℕ) (e : X) → k < size → k < r → get_or (map (up_to r f g) (range_with_len 0 size)) k e ≡ f k
-  get_or_up_to_below size r k e h b = get_or-map-range_with_len (up_to r f g) 0 size k k e h (zero-add k) ∙ up_to_below r k b
-
   pub get_or_up_to_from : (size r k : ℕ) (e : X) → k < size → r ≤ k → get_or (map (up_to r f g) (range_with_len 0 size)) k e ≡ g k
   get_or_up_to_from size r k e h b = get_or-map-range_with_len (up_to r f g) 0 size k k e h (zero-add k) ∙ up_to_from r k b
 
-  -- A pass that goes up writes f r at place r, and one that goes down g r.
+  -- A pass that goes up writes f r at place r.
   pub pass_up : (size r : ℕ) (v : X) → v ≡ f r → set (map (up_to r f g) (range_with_len 0 size)) r v ≡ map (up_to (r + 1) f g) (range_with_len 0 size)
   pass_up size r v e = set_map_counting (up_to r f g) (up_to (r + 1) f g) size r v (e ∙ sym (up_to_below (r + 1) r (omega arith))) (λ k h ne. up_to_more r k ne)
-
-  pub pass_down : (size r : ℕ) (v : X) → v ≡ g r → set (map (up_to (r + 1) f g) (range_with_len 0 size)) r v ≡ map (up_to r f g) (range_with_len 0 size)
-  pass_down size r v e = set_map_counting (up_to (r + 1) f g) (up_to r f g) size r v (e ∙ sym (up_to_from r r (omega arith))) (λ k h ne. sym (up_to_more r k ne))
 
   -- Where a pass begins or ends, the places that it does not reach are alike in both.
   pub pass_below : (size r : ℕ) → ((k : ℕ) → k < r → k < size → f k ≡ g k) → map (up_to r f g) (range_with_len 0 size) ≡ map g (range_with_len 0 size)

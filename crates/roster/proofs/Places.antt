@@ -1,51 +1,60 @@
 -- Where a number stands among the lives. Assumes nothing.
-use Rattle.std.proofs.Common.{◌≡◌, ℕ, zero, suc, ◌+◌, ◌-◌, ◌<◌, ◌≤◌, true, false, ◌||◌, eqb, ◌≢◌, ◌⊎◌, List, [], ◌∷◌, ◌++◌, length, get_or, Some, None, Option, sym, refl, ap, ◌∙◌, ap₂, inl, inr, add-one, arith}
-use Rattle.std.proofs.lemmas.List.{get_or_default}
-use Rattle.std.proofs.lemmas.Bool.{cases_eq, eqb-true, eq-eqb, ne_eqb, cases_Bool, cond-true, cond-false, or_left}
-use Rattle.algebra.specs.Ring.{Ops}
-use Rattle.roster.specs.Ledger.{Member, Ledger, numbers, present, further, place_of, without, changed}
-use Rattle.roster.specs.Cells.{cell_at, Holds}
+use Rattle.std.proofs.Common.{◌≡◌, ℕ, suc, ◌+◌, ◌<◌, ◌≤◌, Bool, true, false, not, cond, ◌||◌, eqb, ltb, ◌⊎◌, List, [], ◌∷◌, ◌++◌, map, length, Some, None, Option, sym, refl, ap, ◌∙◌, ap₂, inl, inr, arith}
+use Rattle.std.specs.List.{position, position_or_len}
+use Rattle.std.specs.Option.{option_map, is_some}
+use Rattle.std.proofs.lemmas.Bool.{cases_lt, lt-ltb, le-ltb, eqb-true, cases_Bool, cond-true, cond-false, or_left}
+use Rattle.roster.specs.Ledger.{Member, numbers, present, further, place_of, without, changed}
 use Rattle.roster.specs.declared.cells.Cell.{Cell}
-use Rattle.roster.proofs.Laying.{get_or_held, lives_within}
 
--- None of cells 1, 2, … below k has this number.
-abbrev pub NotUpTo : {P : Type 0} → List (Cell P) → ℕ → ℕ → Type 0
-NotUpTo {P} cells n k = (j : ℕ) (e : Cell P) → 0 < j → j < k → (get_or cells j e).number ≢ n
+-- A first place q, if it is below a length.
+abbrev found_at : ℕ → ℕ → Option ℕ
+found_at q long = option_map (λ i. i + 1) (cond (ltb q long) (Some q) None)
 
-pub not_more : {P : Type 0} (cells : List (Cell P)) (n k : ℕ) (d : Cell P) → k < length cells → NotUpTo cells n k → ((get_or cells k d).number ≡ n → ⊥) → NotUpTo cells n (k + 1)
-not_more {P} cells n k d within below here j e some b = at (cases_eq j k)
+found_further : (q long : ℕ) → found_at (1 + q) (suc long) ≡ further (found_at q long)
+found_further q long = at (cases_lt q long)
   where
-    at : (j ≡ k) ⊎ (j ≡ k → ⊥) → (get_or cells j e).number ≢ n
-    at (inl same) is = here (ap (λ cell. cell.number) (get_or_default cells k d e within) ∙ ap (λ i. (get_or cells i e).number) (sym same) ∙ is)
-    at (inr ne) is = below j e some (omega arith) is
+    at : (q < long) ⊎ (long ≤ q) → found_at (1 + q) (suc long) ≡ further (found_at q long)
+    at (inl h) =
+        let same : 1 + q + 1 ≡ q + 1 + 1 = omega arith in
+        ap (option_map (λ i. i + 1)) (cond-true (ltb (1 + q) (suc long)) (Some (1 + q)) None (lt-ltb (1 + q) (suc long) (omega arith))) ∙ ap Some same
+        ∙ ap (λ p. further (option_map (λ i. i + 1) p)) (sym (cond-true (ltb q long) (Some q) None (lt-ltb q long h)))
+    at (inr h) =
+        ap (option_map (λ i. i + 1)) (cond-false (ltb (1 + q) (suc long)) (Some (1 + q)) None (le-ltb (1 + q) (suc long) (omega arith)))
+        ∙ ap (λ p. further (option_map (λ i. i + 1) p)) (sym (cond-false (ltb q long) (Some q) None (le-ltb q long h)))
 
-module _ {F : Type 0} (n : ℕ) where
-  -- The first of the lives with the number, i lives having none such before it.
-  pub place_of_some : (lives : List (Member F)) (i : ℕ) → i < length lives → ((j : ℕ) → j < i → get_or (numbers lives) j 0 ≢ n) → get_or (numbers lives) i 0 ≡ n → place_of n lives ≡ Some (i + 1)
-  place_of_some [] i h before here = absurd (omega arith)
-  place_of_some (m ∷ ms) zero h before here = cond-true (eqb m.number n) (Some 1) (further (place_of n ms)) (eq-eqb m.number n here)
-  place_of_some (m ∷ ms) (suc i) h before here =
-      let rest : place_of n ms ≡ Some (i + 1) = place_of_some ms i (omega arith) (λ j b. before (suc j) (omega arith)) here in
-      let more : i + 1 + 1 ≡ suc i + 1 = omega arith in
-      cond-false (eqb m.number n) (Some 1) (further (place_of n ms)) (ne_eqb m.number n (before 0 (omega arith))) ∙ ap further rest ∙ ap Some more
+-- The place of a number among cells that have the lives' numbers.
+pub placed : {F P : Type 0} (n : ℕ) (cells : List (Cell P)) (lives : List (Member F)) → map (λ cell. cell.number) cells ≡ numbers lives
+    → option_map (λ i. i + 1) (position (λ cell. eqb cell.number n) cells) ≡ place_of n lives
+placed n [] [] same = refl
+placed n [] (m ∷ ms) same = cc
+placed n (c ∷ cs) [] same = cc
+placed {F} {P} n (c ∷ cs) (m ∷ ms) same = at (placed n cs ms (cc)) (cases_Bool (eqb m.number n))
+  where
+    q : ℕ
+    q = position_or_len (λ (cell : Cell P). eqb cell.number n) cs
 
-  pub place_of_none : (lives : List (Member F)) → ((j : ℕ) → j < length lives → get_or (numbers lives) j 0 ≢ n) → place_of n lives ≡ None
-  place_of_none [] none = refl
-  place_of_none (m ∷ ms) none =
-      cond-false (eqb m.number n) (Some 1) (further (place_of n ms)) (ne_eqb m.number n (none 0 (omega arith))) ∙ ap further (place_of_none ms (λ j b. none (suc j) (omega arith)))
+    head : c.number ≡ m.number
+    head = cc
 
-  -- A number that has no place is not present.
-  pub absent : (lives : List (Member F)) → place_of n lives ≡ None → present n lives ≡ false
-  absent [] e = refl
-  absent (m ∷ ms) e = at (absent ms) (cases_Bool (eqb m.number n))
-    where
-      next : (p : Option ℕ) → further p ≡ None → p ≡ None
-      next None e = refl
-      next (Some k) e = let z : ◌≡◌ {A = ℕ} 0 1 = cc in absurd (omega arith)
+    here : (t : Bool) → eqb m.number n ≡ t → option_map (λ i. i + 1) (position (λ cell. eqb cell.number n) (c ∷ cs)) ≡ found_at (cond (not t) (1 + q) 0) (suc (length cs))
+    here t e = ap (λ t. found_at (cond (not t) (1 + q) 0) (suc (length cs))) (ap (λ k. eqb k n) head ∙ e)
 
-      at : (place_of n ms ≡ None → present n ms ≡ false) → (eqb m.number n ≡ true) ⊎ (eqb m.number n ≡ false) → present n (m ∷ ms) ≡ false
-      at rest (inl t) = let z : ◌≡◌ {A = ℕ} 0 1 = cc (cond-true (eqb m.number n) (Some 1) (further (place_of n ms)) t) in absurd (omega arith)
-      at rest (inr f) = ap₂ ◌||◌ f (rest (next (place_of n ms) (sym (cond-false (eqb m.number n) (Some 1) (further (place_of n ms)) f) ∙ e)))
+    at : found_at q (length cs) ≡ place_of n ms → (eqb m.number n ≡ true) ⊎ (eqb m.number n ≡ false) → option_map (λ i. i + 1) (position (λ cell. eqb cell.number n) (c ∷ cs)) ≡ place_of n (m ∷ ms)
+    at rest (inl t) = here true t ∙ ap (option_map (λ i. i + 1)) (cond-true (ltb 0 (suc (length cs))) (Some 0) None (lt-ltb 0 (suc (length cs)) (omega arith))) ∙ sym (cond-true (eqb m.number n) (Some 1) (further (place_of n ms)) t)
+    at rest (inr f) = here false f ∙ found_further q (length cs) ∙ ap further rest ∙ sym (cond-false (eqb m.number n) (Some 1) (further (place_of n ms)) f)
+
+-- The numbers that are present are those that have a place.
+pub present_is : {F : Type 0} (n : ℕ) (lives : List (Member F)) → present n lives ≡ is_some (place_of n lives)
+present_is n [] = refl
+present_is n (m ∷ ms) = at (present_is n ms) (cases_Bool (eqb m.number n))
+  where
+    same : (p : Option ℕ) → is_some p ≡ is_some (further p)
+    same None = refl
+    same (Some k) = refl
+
+    at : present n ms ≡ is_some (place_of n ms) → (eqb m.number n ≡ true) ⊎ (eqb m.number n ≡ false) → present n (m ∷ ms) ≡ is_some (place_of n (m ∷ ms))
+    at rest (inl t) = or_left (eqb m.number n) (present n ms) t ∙ ap is_some (sym (cond-true (eqb m.number n) (Some 1) (further (place_of n ms)) t))
+    at rest (inr f) = ap₂ ◌||◌ f rest ∙ same (place_of n ms) ∙ ap is_some (sym (cond-false (eqb m.number n) (Some 1) (further (place_of n ms)) f))
 
 -- The lives around the one at a place.
 pub record Around {F : Type 0} (n : ℕ) (lives : List (Member F)) (place : ℕ) : Type 0 where
@@ -57,7 +66,6 @@ pub record Around {F : Type 0} (n : ℕ) (lives : List (Member F)) (place : ℕ)
   pub gone : without n lives ≡ before ++ after
   pub anew : (x : F) → changed n x lives ≡ before ++ (record { number = n; figure = x } ∷ after)
   pub named : life.number ≡ n
-  pub there : present n lives ≡ true
 
 some_same : (j k : ℕ) → ◌≡◌ {A = Option ℕ} (Some j) (Some k) → j ≡ k
 some_same j k e = cc
@@ -80,7 +88,6 @@ around {F} n (m ∷ ms) place e = at (around n ms) (cases_Bool (eqb m.number n))
           gone = cond-false (eqb m.number n) ms (m ∷ without n ms) differs ∙ ap (λ xs. m ∷ xs) a.gone;
           anew = λ x. cond-false (eqb m.number n) (record { number = n; figure = x } ∷ ms) (m ∷ changed n x ms) differs ∙ ap (λ xs. m ∷ xs) (a.anew x);
           named = a.named;
-          there = ap₂ ◌||◌ differs a.there;
         }
 
     at : ((k : ℕ) → place_of n ms ≡ Some k → Around n ms k) → (eqb m.number n ≡ true) ⊎ (eqb m.number n ≡ false) → Around n (m ∷ ms) place
@@ -95,29 +102,5 @@ around {F} n (m ∷ ms) place e = at (around n ms) (cases_Bool (eqb m.number n))
           gone = cond-true (eqb m.number n) ms (m ∷ without n ms) t;
           anew = λ x. cond-true (eqb m.number n) (record { number = n; figure = x } ∷ ms) (m ∷ changed n x ms) t;
           named = eqb-true m.number n t;
-          there = or_left (eqb m.number n) (present n ms) t;
         }
     at rest (inr f) = deeper rest (place_of n ms) refl (sym (cond-false (eqb m.number n) (Some 1) (further (place_of n ms)) f) ∙ e) f
-
--- What a search over the cells has found.
-module _ {F P : Type 0} {o : Ops F} {plain : F → P} {size : ℕ} {l : Ledger F} {cells : List (Cell P)} (held : Holds o plain size l cells) where
-  numbered_at : (j : ℕ) (e : Cell P) → j < length l.lives → (get_or cells (j + 1) e).number ≡ get_or (numbers l.lives) j 0
-  numbered_at j e h =
-      let inside : j + 1 < size = omega (arith, lives_within held (omega arith)) in
-      ap (λ cell. cell.number) (get_or_held held (j + 1) e inside) ∙ ap (λ k. get_or (0 ∷ numbers l.lives) k 0) (add-one j)
-
-  some_cell : Cell P
-  some_cell = cell_at o plain l.whole l.lives 0
-
-  pub place_found : (n k count : ℕ) → count ≡ length l.lives → 0 < k → k ≤ count → NotUpTo cells n k → ((e : Cell P) → (get_or cells k e).number ≡ n) → Some k ≡ place_of n l.lives
-  place_found n k count counted some within not here =
-      let k-is : k - 1 + 1 ≡ k = omega arith in
-      let inside : k - 1 < length l.lives = omega arith in
-      sym (place_of_some n l.lives (k - 1) inside
-      (λ j b e. not (j + 1) some_cell (omega arith) (omega arith) (numbered_at j some_cell (omega arith) ∙ e))
-      (sym (numbered_at (k - 1) some_cell inside) ∙ ap (λ i. (get_or cells i some_cell).number) k-is ∙ here some_cell)
-      ∙ ap Some k-is)
-
-  pub place_missing : (n k count : ℕ) → count ≡ length l.lives → count < k → NotUpTo cells n k → None ≡ place_of n l.lives
-  place_missing n k count counted past not =
-      sym (place_of_none n l.lives (λ j b e. not (j + 1) some_cell (omega arith) (omega arith) (numbered_at j some_cell b ∙ e)))

@@ -32,6 +32,14 @@ module _ {F P : Type 0} (o : Ops F) (plain : F → P) where
     pub numbered : AllByRecursion (λ m. m.number ≢ 0) l.lives
     pub are : cells ≡ laid size l.whole l.lives
 
+  -- What holds of whatever ledger the cells hold.
+  abbrev pub OfLedger : List (Cell P) → (Ledger F → Type 0) → Type 0
+  OfLedger cells Q = (size : ℕ) (l : Ledger F) → Holds size l cells → Q l
+
+  -- These cells hold some ledger.
+  abbrev pub HoldSome : List (Cell P) → Type 0
+  HoldSome cells = (size : ℕ) × ((l : Ledger F) × Holds size l cells)
+
   -- What each call promises: whatever ledger the cells held, the answer is that ledger's, and they hold its next state.
   abbrev pub Met : Call F P → List (Cell P) → Answer F P → List (Cell P) → Type 0
   Met call before given after =

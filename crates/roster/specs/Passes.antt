@@ -1,10 +1,31 @@
 -- What the passes over the cells do, which joining, leaving and changing are made of: for contracts inside the crate.
 -- No contract of a public call cites these. Assumes nothing.
-use Rattle.std.specs.Prelude.{◌≡◌, ℕ, suc, ◌+◌, ◌<◌, ◌≤◌, List, [], ◌∷◌, ◌++◌, map}
-use Rattle.std.specs.List.{range_with_len}
+use Rattle.std.specs.Prelude.{◌≡◌, ℕ, ◌+◌, ◌<◌, ◌≤◌, List, [], ◌∷◌, ◌++◌, map}
+use Rattle.std.specs.List.{range_with_len, scan}
 use Rattle.algebra.specs.Ring.{Ops}
 use Rattle.roster.specs.Ledger.{Ledger, without, changed}
 use Rattle.roster.specs.declared.cells.Cell.{Cell}
+
+-- The sums of some lives become those of others, in a pass that goes up and keeps in hand a sum of the cell below.
+module _ {F P : Type 0} (o : Ops F) (plain : F → P) (figure : P → F) where
+  abbrev pub with_sum : Cell P → F → Cell P
+  with_sum cell sum = record { figure = cell.figure; sum = plain sum; number = cell.number }
+
+  -- One life more, of figure p: each sum has p times the one below it added, as that was.
+  abbrev pub multiplied : F → List (Cell P) → List (Cell P)
+  multiplied p cells = scan (λ below cell. figure cell.sum) (λ below cell. with_sum cell (o.plus (figure cell.sum) (o.times p below))) o.zero cells
+
+  -- A sum without a life of figure p, from the one below it without that life.
+  abbrev pub rest : F → F → Cell P → F
+  rest p below cell = o.plus (figure cell.sum) (o.minus (o.times p below))
+
+  -- One life less, of figure p.
+  abbrev pub divided : F → List (Cell P) → List (Cell P)
+  divided p cells = scan (rest p) (λ below cell. with_sum cell (rest p below cell)) o.zero cells
+
+  -- Figure q for one life, which was p.
+  abbrev pub exchanged : F → F → List (Cell P) → List (Cell P)
+  exchanged p q cells = scan (rest p) (λ below cell. with_sum cell (o.plus (rest p below cell) (o.times q below))) o.zero cells
 
 -- Cells by what stands in each of their fields, at each place.
 abbrev pub cell_of : {P : Type 0} → (ℕ → P) → (ℕ → P) → (ℕ → ℕ) → ℕ → Cell P
@@ -16,11 +37,6 @@ cells_of size figure sum number = map (cell_of figure sum number) (range_with_le
 -- Past place n there is nothing but z.
 abbrev pub Ends : {X : Type 0} → ℕ → X → (ℕ → X) → Type 0
 Ends n z f = (k : ℕ) → n < k → f k ≡ z
-
--- The sums with one life more, of this figure: those without it, times (1 + p·x).
-pub record Multiplied {F : Type 0} (o : Ops F) (p : F) (without with : ℕ → F) : Type 0 where
-  pub first : with 0 ≡ without 0
-  pub after : (k : ℕ) → with (suc k) ≡ o.plus (without (suc k)) (o.times p (without k))
 
 -- What stood past a place has moved down over it.
 pub record Closed {X : Type 0} (place : ℕ) (old new : ℕ → X) : Type 0 where

@@ -1,5 +1,5 @@
 //! One life more, one life less, another figure for a life: figures, numbers and sums together.
-ghost use Rattle.std.specs.Prelude.{◌≡◌, ℕ, ◌+◌, ◌<◌, ◌≤◌, ◌≢◌, [], ◌∷◌, ◌++◌, length, Some};
+ghost use Rattle.std.specs.Prelude.{◌≡◌, ℕ, ◌+◌, ◌<◌, ◌≢◌, length, Some};
 ghost use Rattle.roster.specs.Ledger.{Ledger, place_of};
 ghost use Rattle.roster.specs.Cells.{Holds};
 ghost use Rattle.roster.specs.Passes.{joined, left, altered};
@@ -14,13 +14,10 @@ pub(crate) fn put_in<F: Ring>(cells: &mut [Cell<F::Plain>], n: usize, number: u3
     requires { n + 1 < length cells.old }
     ensures { (size : ℕ) (l : Ledger F) → Holds F.Ring.ops F.Ring.plain size l cells.old → n ≡ length l.lives → n < l.capacity → number ≢ 0 → Holds F.Ring.ops F.Ring.plain size (joined l number figure) cells.new }
 {
-    multiply_in::<F>(cells, n, figure);
-    let free = cells[n + 1];
-    cells[n + 1] = Cell {
-        figure: figure.to_plain(),
-        number,
-        ..free
-    };
+    multiply_in::<F>(&mut cells[..n + 2], figure);
+    let life = &mut cells[n + 1];
+    life.figure = figure.to_plain();
+    life.number = number;
 }
 
 /// The life at a place leaves.
@@ -29,8 +26,8 @@ pub(crate) fn take_out<F: Ring>(cells: &mut [Cell<F::Plain>], place: usize)
     ensures { (size : ℕ) (l : Ledger F) (number : ℕ) → Holds F.Ring.ops F.Ring.plain size l cells.old → place_of number l.lives ≡ Some place → Holds F.Ring.ops F.Ring.plain size (left l number) cells.new }
 {
     let n = count::<F>(cells);
-    let life = cells[place];
-    divide_out::<F>(cells, n, F::from_plain(life.figure));
+    let out = F::from_plain(cells[place].figure);
+    divide_out::<F>(&mut cells[..n + 1], out);
     close_gap::<F>(cells, place, n);
 }
 
@@ -40,11 +37,7 @@ pub(crate) fn alter<F: Ring>(cells: &mut [Cell<F::Plain>], place: usize, figure:
     ensures { (size : ℕ) (l : Ledger F) (number : ℕ) → Holds F.Ring.ops F.Ring.plain size l cells.old → place_of number l.lives ≡ Some place → Holds F.Ring.ops F.Ring.plain size (altered l number figure) cells.new }
 {
     let n = count::<F>(cells);
-    let life = cells[place];
-    exchange::<F>(cells, n, F::from_plain(life.figure), figure);
-    let life = cells[place];
-    cells[place] = Cell {
-        figure: figure.to_plain(),
-        ..life
-    };
+    let out = F::from_plain(cells[place].figure);
+    exchange::<F>(&mut cells[..n + 1], out, figure);
+    cells[place].figure = figure.to_plain();
 }

@@ -1,26 +1,26 @@
 //! The roster, and the calls that alter it.
-ghost use Rattle.std.specs.Prelude.{◌≡◌, ℕ, ◌<◌, ◌≤◌, ◌≢◌, length, replicate, IfSome, MatchResult};
-ghost use Rattle.roster.specs.Ledger.{Ledger, Join, Leave, Change, Clear, Exactly, AtLeast, Composed, Triangle, Done, opened, capacity_of, place_of};
-ghost use Rattle.roster.specs.Cells.{Holds, Met, zero_cell};
+ghost use Rattle.std.specs.Prelude.{◌≡◌, ◌<◌, ◌≤◌, ◌≢◌, length, replicate, IfSome, IfOk, MatchResult};
+ghost use Rattle.roster.specs.Ledger.{Join, Leave, Change, Clear, Exactly, AtLeast, Composed, Triangle, Done, opened, capacity_of, place_of, answer};
+ghost use Rattle.roster.specs.Cells.{Holds, HoldSome, OfLedger, Met, zero_cell};
 ghost use Rattle.roster.specs.Refusals.{done_or, figure_or, table_or};
 ghost use Rattle.roster.specs.declared.refusals.Refusal.TheVariants.{OtherCells};
 
 use crate::cells::Cell;
-use crate::counting::{count, place};
+use crate::counting::{MOST, count, place};
 use crate::edits::{alter, put_in, take_out};
 use crate::questions::{at_least_of, exactly_of};
 use crate::refusals::Refusal;
 use crate::rows::{composed_row_of, triangle_row_of};
 use crate::slips::{Slip, Unclosed};
-use crate::writing::{lay_out, wipe_from};
+use crate::writing::{lay_out, wipe};
 use figures::Ring;
-
-const MOST: usize = 64;
 
 /// Lives by number, each with its figure, in cells that are lent to it. All that it knows lies in the cells.
 #[derive(Drop)]
 pub struct Roster<'a, F: Ring> {
     cells: &'a mut [Cell<F::Plain>],
+    // Whatever was done, the cells hold a ledger.
+    ghost held: { ∥ HoldSome F.Ring.ops F.Ring.plain cells.now ∥₁ },
 }
 
 impl<'a, F: Ring> Roster<'a, F> {
@@ -43,7 +43,7 @@ impl<'a, F: Ring> Roster<'a, F> {
     /// How many lives there are.
     pub fn lives(&self) -> usize
         ensures within { result ≤ capacity_of (length self.now.cells.now) }
-        ensures counted { (size : ℕ) (l : Ledger F) → Holds F.Ring.ops F.Ring.plain size l self.now.cells.now → result ≡ length l.lives }
+        ensures counted { OfLedger F.Ring.ops F.Ring.plain self.now.cells.now (λ l. result ≡ length l.lives) }
     {
         count::<F>(self.cells)
     }
@@ -51,9 +51,20 @@ impl<'a, F: Ring> Roster<'a, F> {
     /// The place of the first life with this number.
     pub fn find(&self, number: u32) -> Option<usize>
         ensures within { IfSome result (λ k. (0 < k) × (k < length self.now.cells.now)) }
-        ensures found { (size : ℕ) (l : Ledger F) → Holds F.Ring.ops F.Ring.plain size l self.now.cells.now → result ≡ place_of number l.lives }
+        ensures found { OfLedger F.Ring.ops F.Ring.plain self.now.cells.now (λ l. result ≡ place_of number l.lives) }
     {
         place::<F>(self.cells, number)
+    }
+
+    /// The place of a life that is to leave or to change.
+    fn locate(&self, number: u32) -> Result<usize, Refusal>
+        ensures within { IfOk result (λ k. k < length self.now.cells.now) }
+        ensures found { OfLedger F.Ring.ops F.Ring.plain self.now.cells.now (λ l. (done_or result ≡ answer F.Ring.ops F.Ring.plain l (Leave number)) × IfOk result (λ k. place_of number l.lives ≡ Some k)) }
+    {
+        if number == 0 {
+            return Err(Refusal::ZeroNumber);
+        }
+        self.find(number).ok_or(Refusal::Absent)
     }
 
     pub fn join(&mut self, number: u32, figure: F) -> Result<(), Refusal>
@@ -63,7 +74,7 @@ impl<'a, F: Ring> Roster<'a, F> {
         if number == 0 {
             return Err(Refusal::ZeroNumber);
         }
-        if let Some(_) = self.find(number) {
+        if self.find(number).is_some() {
             return Err(Refusal::Present);
         }
         let n = self.lives();
@@ -78,12 +89,7 @@ impl<'a, F: Ring> Roster<'a, F> {
         ensures met { Met F.Ring.ops F.Ring.plain (Leave number) self.old.cells.now (done_or result) self.new.cells.now }
         ensures lent { self.new.cells.ghost_name ≡ self.old.cells.ghost_name }
     {
-        if number == 0 {
-            return Err(Refusal::ZeroNumber);
-        }
-        let Some(k) = self.find(number) else {
-            return Err(Refusal::Absent);
-        };
+        let k = self.locate(number)?;
         take_out::<F>(self.cells, k);
         Ok(())
     }
@@ -92,12 +98,7 @@ impl<'a, F: Ring> Roster<'a, F> {
         ensures met { Met F.Ring.ops F.Ring.plain (Change number figure) self.old.cells.now (done_or result) self.new.cells.now }
         ensures lent { self.new.cells.ghost_name ≡ self.old.cells.ghost_name }
     {
-        if number == 0 {
-            return Err(Refusal::ZeroNumber);
-        }
-        let Some(k) = self.find(number) else {
-            return Err(Refusal::Absent);
-        };
+        let k = self.locate(number)?;
         alter::<F>(self.cells, k, figure);
         Ok(())
     }
@@ -107,8 +108,9 @@ impl<'a, F: Ring> Roster<'a, F> {
         ensures met { Met F.Ring.ops F.Ring.plain Clear self.old.cells.now Done self.new.cells.now }
         ensures lent { self.new.cells.ghost_name ≡ self.old.cells.ghost_name }
     {
-        if self.cells.len() > 0 {
-            wipe_from::<F>(self.cells, 1);
+        let cells = &mut *self.cells;
+        if !cells.is_empty() {
+            wipe::<F>(&mut cells[1..]);
         }
     }
 }
@@ -151,6 +153,6 @@ pub fn close<F: Ring>(cells: &mut [Cell<F::Plain>], slip: Slip) -> Result<(), Un
         });
     }
     slip.spend();
-    wipe_from::<F>(cells, 0);
+    wipe::<F>(cells);
     Ok(())
 }

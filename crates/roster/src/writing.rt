@@ -1,15 +1,14 @@
 //! Passes over the cells, each in place.
-ghost use Rattle.std.specs.Prelude.{◌≡◌, ℕ, ◌+◌, ◌-◌, ◌<◌, ◌≤◌, [], ◌++◌, length, take, replicate};
+ghost use Rattle.std.specs.Prelude.{◌≡◌, ℕ, ◌<◌, ◌≤◌, [], length, replicate};
 ghost use Rattle.roster.specs.Cells.{laid, zero_cell};
-ghost use Rattle.roster.specs.Passes.{cells_of, Ends, Multiplied, Closed};
+ghost use Rattle.roster.specs.Passes.{multiplied, divided, exchanged, cells_of, Ends, Closed};
 
 use crate::cells::Cell;
 use figures::Ring;
 
-/// Every cell from this place on becomes zero in every field.
-pub(crate) fn wipe_from<F: Ring>(cells: &mut [Cell<F::Plain>], place: usize)
-    requires { place ≤ length cells.old }
-    ensures { cells.new ≡ take place cells.old ++ replicate (length cells.old - place) (zero_cell F.Ring.ops F.Ring.plain) }
+/// Every cell becomes zero in every field.
+pub(crate) fn wipe<F: Ring>(cells: &mut [Cell<F::Plain>])
+    ensures { cells.new ≡ replicate (length cells.old) (zero_cell F.Ring.ops F.Ring.plain) }
 {
     let zero = F::zero().to_plain();
     let blank = Cell {
@@ -17,52 +16,42 @@ pub(crate) fn wipe_from<F: Ring>(cells: &mut [Cell<F::Plain>], place: usize)
         sum: zero,
         number: 0,
     };
-    for k in place..cells.len() {
-        cells[k] = blank;
+    // Not `fill`: it asks for a clone that cannot fail, which `Plain` does not promise.
+    cells.fill_with(|| blank);
+}
+
+/// The sums become those with one life more, for which the last cell is.
+pub(crate) fn multiply_in<F: Ring>(cells: &mut [Cell<F::Plain>], figure: F)
+    ensures { cells.new ≡ multiplied F.Ring.ops F.Ring.plain F.Ring.figure figure cells.old }
+{
+    let mut below = F::zero();
+    for cell in cells.iter_mut() {
+        let here = F::from_plain(cell.sum);
+        cell.sum = here.add(figure.mul(below)).to_plain();
+        below = here;
     }
 }
 
-/// The sums of n lives become those with one life more. From the top down, so that each is made from sums as they were.
-pub(crate) fn multiply_in<F: Ring>(cells: &mut [Cell<F::Plain>], n: usize, figure: F)
-    requires { n + 1 < length cells.old }
-    ensures { (size : ℕ) (figures : ℕ → F.Plain) (numbers : ℕ → ℕ) (old new : ℕ → F) → Ends n F.Ring.ops.zero old → Multiplied F.Ring.ops figure old new → cells.old ≡ cells_of size figures (λ k. F.Ring.plain (old k)) numbers → cells.new ≡ cells_of size figures (λ k. F.Ring.plain (new k)) numbers }
+/// The sums become those without a life of this figure.
+pub(crate) fn divide_out<F: Ring>(cells: &mut [Cell<F::Plain>], figure: F)
+    ensures { cells.new ≡ divided F.Ring.ops F.Ring.plain F.Ring.figure figure cells.old }
 {
-    for r in (1..n + 2).rev() {
-        let below = cells[r - 1];
-        let cell = cells[r];
-        let more = figure.mul(F::from_plain(below.sum));
-        let sum = F::from_plain(cell.sum).add(more).to_plain();
-        cells[r] = Cell { sum, ..cell };
+    let mut below = F::zero();
+    for cell in cells.iter_mut() {
+        below = F::from_plain(cell.sum).add(figure.mul(below).neg());
+        cell.sum = below.to_plain();
     }
 }
 
-/// The sums of n lives become those without a life of this figure. From the bottom up, so that each is made from the new one below it.
-pub(crate) fn divide_out<F: Ring>(cells: &mut [Cell<F::Plain>], n: usize, figure: F)
-    requires { n < length cells.old }
-    ensures { (size : ℕ) (figures : ℕ → F.Plain) (numbers : ℕ → ℕ) (old new : ℕ → F) → Ends n F.Ring.ops.zero old → Ends n F.Ring.ops.zero new → Multiplied F.Ring.ops figure new old → cells.old ≡ cells_of size figures (λ k. F.Ring.plain (old k)) numbers → cells.new ≡ cells_of size figures (λ k. F.Ring.plain (new k)) numbers }
+/// The sums become those with another figure for one life. One pass: `without` is the sum below, without that life.
+pub(crate) fn exchange<F: Ring>(cells: &mut [Cell<F::Plain>], out: F, figure: F)
+    ensures { cells.new ≡ exchanged F.Ring.ops F.Ring.plain F.Ring.figure out figure cells.old }
 {
-    for r in 1..n + 1 {
-        let below = cells[r - 1];
-        let cell = cells[r];
-        let less = figure.mul(F::from_plain(below.sum));
-        let sum = F::from_plain(cell.sum).add(less.neg()).to_plain();
-        cells[r] = Cell { sum, ..cell };
-    }
-}
-
-/// The sums of n lives become those with another figure for one life. One pass: `without` is the sum below, without that life.
-pub(crate) fn exchange<F: Ring>(cells: &mut [Cell<F::Plain>], n: usize, out: F, figure: F)
-    requires { n < length cells.old }
-    ensures { (size : ℕ) (figures : ℕ → F.Plain) (numbers : ℕ → ℕ) (old mid new : ℕ → F) → Ends n F.Ring.ops.zero old → Ends n F.Ring.ops.zero new → mid 0 ≡ F.Ring.ops.one → Multiplied F.Ring.ops out mid old → Multiplied F.Ring.ops figure mid new → cells.old ≡ cells_of size figures (λ k. F.Ring.plain (old k)) numbers → cells.new ≡ cells_of size figures (λ k. F.Ring.plain (new k)) numbers }
-{
-    let mut without = F::one();
-    for r in 1..n + 1 {
-        let cell = cells[r];
-        let less = out.mul(without);
+    let mut without = F::zero();
+    for cell in cells.iter_mut() {
         let more = figure.mul(without);
-        without = F::from_plain(cell.sum).add(less.neg());
-        let sum = without.add(more).to_plain();
-        cells[r] = Cell { sum, ..cell };
+        without = F::from_plain(cell.sum).add(out.mul(without).neg());
+        cell.sum = without.add(more).to_plain();
     }
 }
 
@@ -71,29 +60,26 @@ pub(crate) fn close_gap<F: Ring>(cells: &mut [Cell<F::Plain>], place: usize, n: 
     requires { n < length cells.old }
     ensures { place ≤ n → (size : ℕ) (figures kept sums : ℕ → F.Plain) (numbers left : ℕ → ℕ) → Ends n (F.Ring.plain F.Ring.ops.zero) figures → Ends n 0 numbers → Closed place figures kept → Closed place numbers left → cells.old ≡ cells_of size figures sums numbers → cells.new ≡ cells_of size kept sums left }
 {
+    // By index: a carry from the top would do, but a proof knows nothing of what is written through a reversed iterator.
     for k in place..n {
-        let cell = cells[k];
         let above = cells[k + 1];
         cells[k] = Cell {
-            sum: cell.sum,
+            sum: cells[k].sum,
             ..above
         };
     }
-    let last = cells[n];
-    cells[n] = Cell {
-        figure: F::zero().to_plain(),
-        number: 0,
-        ..last
-    };
+    let last = &mut cells[n];
+    last.figure = F::zero().to_plain();
+    last.number = 0;
 }
 
 /// The cells of a roster without lives.
 pub(crate) fn lay_out<F: Ring>(cells: &mut [Cell<F::Plain>], whole: F)
     ensures { cells.new ≡ laid F.Ring.ops F.Ring.plain (length cells.old) whole [] }
 {
-    wipe_from::<F>(cells, 0);
-    if cells.len() > 0 {
-        cells[0] = Cell {
+    wipe::<F>(cells);
+    if let Some(first) = cells.first_mut() {
+        *first = Cell {
             figure: whole.to_plain(),
             sum: F::one().to_plain(),
             number: 0,

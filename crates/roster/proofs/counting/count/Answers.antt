@@ -1,25 +1,16 @@
-use Rattle.std.proofs.Common.{◌≡◌, ◌+◌, sym, ap, ◌∙◌, arith, rules}
-use Rattle.std.proofs.lemmas.List.{get_or_read}
-use Rattle.roster.proofs.Laying.{scan_held}
+use Rattle.std.proofs.Common.{not, eqb, take, drop, rules, tests, ◌∙◌}
+use Rattle.std.proofs.lemmas.Iterator.{YieldsList-from_slice, YieldsList-from_take}
+use Rattle.std.proofs.lemmas.Iterator.Adapters.{YieldsList-from_skip}
+use Rattle.std.proofs.lemmas.Iterator.Consumers.{YieldsList-at, count_from_yields_List}
+use Rattle.std.proofs.lemmas.Iterator.Search.{YieldsList-from_take_while}
+use Rattle.std.proofs.lemmas.List.Folds.{length-prefix_len}
+use Rattle.roster.proofs.Laying.{counted}
 use Rattle.roster.proofs.counting.count.Goals as goal
 
-pub returns-else-cells-n-ne0 : goal.returns-else-cells-n-ne0
-returns-else-cells-n-ne0 g c = record {
-  few = c.loop-n.invariant.0;
-  within = c.loop-n.invariant.1;
-  lives = λ size l held. scan_held held c.loop-n.n c.loop-n.invariant.1 c.loop-n.invariant.2 (λ _ _ e. let none : c.index-cells-n.result.number ≡ 0 = search rules in ap (λ cell. cell.number) (sym (get_or_read c.args.cells.now (c.loop-n.n + 1) c.index-cells-n.result c.if-n-cells.true c.index-cells-n.is e)) ∙ none);
-}
-
-pub returns-else-n-cells : goal.returns-else-n-cells
-returns-else-n-cells g c = record {
-  few = c.loop-n.invariant.0;
-  within = c.loop-n.invariant.1;
-  lives = λ size l held. scan_held held c.loop-n.n c.loop-n.invariant.1 c.loop-n.invariant.2 (λ _ h e. absurd (omega arith));
-}
-
-pub returns-after-loop-n : goal.returns-after-loop-n
-returns-after-loop-n g c = record {
-  few = c.loop-n.invariant.0;
-  within = c.loop-n.invariant.1;
-  lives = λ size l held. scan_held held c.loop-n.n c.loop-n.invariant.1 c.loop-n.invariant.2 (λ h _ e. absurd (omega arith));
-}
+pub returns-clause-lives : goal.returns-clause-lives
+returns-clause-lives g c size l held =
+    count_from_yields_List c.take_while.result c.count.result c.count.ensures.ran
+    (YieldsList-from_take_while _ (λ cell. not (eqb cell.number 0))
+    (YieldsList-at c.take_while.ensures.source (YieldsList-from_take 64 (YieldsList-at c.take-lives.ensures.source (YieldsList-from_skip 1 (YieldsList-at c.skip.ensures.source (YieldsList-from_slice c.args.cells.now cc)) c.skip.ensures.count)) c.take-lives.ensures.count))
+    c.take_while.ensures.closure c.take_while.ensures.done (λ x b q k. search (rules, tests)))
+    ∙ length-prefix_len (λ cell. not (eqb cell.number 0)) (take 64 (drop 1 c.args.cells.now)) ∙ counted held

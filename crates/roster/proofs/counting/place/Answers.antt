@@ -1,27 +1,20 @@
-use Rattle.std.proofs.Common.{◌<◌, length, ap, ◌∙◌, arith}
-use Rattle.std.proofs.lemmas.List.{get_or_default}
-use Rattle.roster.proofs.Places.{not_more, place_found, place_missing}
+use Rattle.std.proofs.Common.{◌≡◌, ◌+◌, ap, eqb, take, drop, rules, tests, ◌∙◌}
+use Rattle.std.specs.List.{position}
+use Rattle.std.specs.Option.{option_map}
+use Rattle.std.proofs.lemmas.Iterator.{YieldsList-from_slice, YieldsList-from_take}
+use Rattle.std.proofs.lemmas.Iterator.Adapters.{YieldsList-from_skip}
+use Rattle.std.proofs.lemmas.Iterator.Consumers.{YieldsList-at}
+use Rattle.std.proofs.lemmas.Iterator.Search.{position_from_yields_List}
+use Rattle.roster.proofs.Laying.{numbers_held}
+use Rattle.roster.proofs.Places.{placed}
 use Rattle.roster.proofs.counting.place.Goals as goal
 
-pub loop-k-init : goal.loop-k-init
-loop-k-init g c j e some none = absurd (omega arith)
-
-pub loop-k-preserved : goal.loop-k-preserved
-loop-k-preserved g c =
-    not_more c.args.cells.now c.args.number c.loop-k.k c.index-cells-k.result (omega (arith, c.count-n.ensures.within (omega arith))) c.loop-k.invariant c.if-cells-k.false
-
-pub returns-then-cells-k : goal.returns-then-cells-k
-returns-then-cells-k g c =
-    let inside : c.loop-k.k < length c.args.cells.now = omega (arith, c.count-n.ensures.within (omega arith)) in
-    record {
-      within = (omega arith, inside);
-      found = λ size l held.
-          place_found held c.args.number c.loop-k.k c.count-n.result (c.count-n.ensures.lives size l held) (omega arith) (omega arith) c.loop-k.invariant
-          (λ e. ap (λ cell. cell.number) (get_or_default c.args.cells.now c.loop-k.k e c.index-cells-k.result inside) ∙ c.if-cells-k.true);
-    }
-
-pub returns : goal.returns
-returns g c = record {
-  within = tt;
-  found = λ size l held. place_missing held c.args.number c.loop-k.k c.count-n.result (c.count-n.ensures.lives size l held) (omega arith) c.loop-k.invariant;
-}
+pub returns-clause-found : goal.returns-clause-found
+returns-clause-found g c size l held =
+    let found : c.position.result ≡ position (λ cell. eqb cell.number c.args.number) (take c.count-n.result (drop 1 c.args.cells.now)) =
+    position_from_yields_List (λ cell. eqb cell.number c.args.number) _ _ c.position.result c.position.ensures.ran
+    (YieldsList-from_take c.count-n.result (YieldsList-at c.take-lives.ensures.source (YieldsList-from_skip 1 (YieldsList-at c.skip.ensures.source (YieldsList-from_slice c.args.cells.now cc)) c.skip.ensures.count)) c.take-lives.ensures.count)
+    (λ x b q k. search (rules, tests)) in
+    let mapped : c.map.result ≡ option_map (λ i. i + 1) c.position.result = search rules in
+    mapped ∙ ap (option_map (λ i. i + 1)) found ∙ ap (λ n. option_map (λ i. i + 1) (position (λ cell. eqb cell.number c.args.number) (take n (drop 1 c.args.cells.now)))) (c.count-n.ensures.lives size l held)
+    ∙ placed c.args.number _ l.lives (numbers_held held)

@@ -1,16 +1,6 @@
-use Rattle.std.proofs.Common.{◌+◌, ◌<◌, length, arith}
-use borrow.Author.Rules.{scaled_Fits}
+use Rattle.std.proofs.Common.{arith}
 use Rattle.roster.proofs.Gaps.{closing_start, closing_step, closing_end}
 use Rattle.roster.proofs.writing.close_gap.Goals as goal
-
-pub offset_bounds-cells-n : goal.offset_bounds-cells-n
-offset_bounds-cells-n g c = let h : c.args.n < length c.args.cells.now = omega arith in search scaled_Fits
-
-pub offset_bounds-cells-k : goal.offset_bounds-cells-k
-offset_bounds-cells-k g c = let h : c.loop-k.k < length c.args.cells.now = omega arith in search scaled_Fits
-
-pub offset_bounds-cells-k-in-loop-k : goal.offset_bounds-cells-k-in-loop-k
-offset_bounds-cells-k-in-loop-k g c = let h : c.loop-k.k + 1 < length c.args.cells.now = omega arith in search scaled_Fits
 
 pub loop-k-init : goal.loop-k-init
 loop-k-init g c = closing_start (g.F.Ring.plain g.F.Ring.ops.zero) c.args.place c.args.n c.args.cells.now
@@ -18,9 +8,9 @@ loop-k-init g c = closing_start (g.F.Ring.plain g.F.Ring.ops.zero) c.args.place 
 pub loop-k-preserved : goal.loop-k-preserved
 loop-k-preserved g c =
     closing_step (g.F.Ring.plain g.F.Ring.ops.zero) c.args.place c.args.n c.args.cells.now c.loop-k.cells c.loop-k.k c.index-cells-k.result c.index-cells-k-in-loop-k.result
-    (omega arith) (omega arith) c.index-cells-k.is c.index-cells-k-in-loop-k.is c.loop-k.invariant
+    (omega arith) (omega arith) c.index-cells-k.is c.loop-k.invariant
 
 pub returns : goal.returns
 returns g c below =
-    closing_end (g.F.Ring.plain g.F.Ring.ops.zero) c.args.place c.args.n c.args.cells.now c.loop-k.cells c.loop-k.k c.index-cells-n.result c.to_plain.result
-    (omega (arith, c.loop-k.auto.k-end below)) below (omega arith) c.index-cells-n.is (cc) c.loop-k.invariant
+    closing_end (g.F.Ring.plain g.F.Ring.ops.zero) c.args.place c.args.n c.args.cells.now c.loop-k.cells c.loop-k.k c.index-cells-n.result c.to_plain-last.result
+    (omega (arith, c.loop-k.auto.k-end below)) below (omega arith) (cc) c.loop-k.invariant

@@ -1,5 +1,8 @@
-use Rattle.roster.proofs.Sums.{Multiplying}
+use Rattle.roster.specs.Passes.{with_sum}
+use Rattle.roster.proofs.Sums.{Passing}
 use Rattle.roster.proofs.writing.multiply_in.Given as goal
 
-abbrev pub invariant-loop-r : goal.invariant-loop-r
-invariant-loop-r g l = Multiplying g.F.Ring.ops g.F.Ring.plain l.n l.figure l.initial.cells l.r l.cells
+abbrev pub invariant-loop-cell : goal.invariant-loop-cell
+invariant-loop-cell g l =
+    let ring = g.F.Ring in
+    Passing (λ below cell. ring.figure cell.sum) (λ below cell. with_sum ring.ops ring.plain ring.figure cell (ring.ops.plus (ring.figure cell.sum) (ring.ops.times l.figure below))) ring.ops.zero l.initial.cells l.cell-index l.below l.cells

@@ -1,15 +1,19 @@
-use Rattle.std.proofs.Common.{refl}
-use Rattle.roster.proofs.Calls.{clear_done, clear_none}
+use Rattle.std.proofs.Common.{◌≡◌, ◌-◌, ◌<◌, length, replicate, rules}
+use Rattle.roster.specs.Cells.{zero_cell}
+use Rattle.roster.proofs.Calls.{clear_done, still}
 use Rattle.roster.proofs.rosters.Roster.clear.Goals as goal
 
-pub returns-then-self-gt0 : goal.returns-then-self-gt0
-returns-then-self-gt0 g c = record {
-  met = clear_done g.met.F.Ring.laws g.F.Ring.plain c.args.self.now.cells.now c.wipe_from.new.cells c.if-self-gt0.true c.wipe_from.ensures;
-  lent = refl;
-}
+pub returns-then-not-is_empty-clause-met : goal.returns-then-not-is_empty-clause-met
+returns-then-not-is_empty-clause-met g c =
+    let some : 0 < length c.args.self.now.cells.now = search rules in
+    let is : c.wipe.new.cells ≡ replicate (length c.args.self.now.cells.now - 1) (zero_cell g.F.Ring.ops g.F.Ring.plain) = search rules in
+    clear_done g.met.F.Ring.laws g.F.Ring.plain c.args.self.now.cells.now c.wipe.new.cells some is
 
-pub returns-else-self-gt0 : goal.returns-else-self-gt0
-returns-else-self-gt0 g c = record {
-  met = clear_none g.met.F.Ring.laws g.F.Ring.plain c.args.self.now.cells.now c.if-self-gt0.false;
-  lent = refl;
-}
+pub invariant_of-self : goal.invariant_of-self
+invariant_of-self g c =
+    let some : 0 < length c.args.self.now.cells.now = search rules in
+    let is : c.wipe.new.cells ≡ replicate (length c.args.self.now.cells.now - 1) (zero_cell g.F.Ring.ops g.F.Ring.plain) = search rules in
+    record {
+      held = still g.F.Ring.ops g.F.Ring.plain _ c.args.self.now.cells.now _
+          (λ size l held. (clear_done g.met.F.Ring.laws g.F.Ring.plain c.args.self.now.cells.now c.wipe.new.cells some is size l held).1) c.args.self.now.held;
+    }

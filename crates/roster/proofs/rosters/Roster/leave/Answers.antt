@@ -1,15 +1,15 @@
-use Rattle.std.proofs.Common.{refl}
-use Rattle.roster.proofs.Calls.{leave_absent, leave_done}
+use Rattle.roster.specs.Ledger.{Leave}
+use Rattle.roster.specs.Passes.{left}
+use Rattle.roster.proofs.Calls.{done_met, still}
 use Rattle.roster.proofs.rosters.Roster.leave.Goals as goal
 
-pub returns-in_default : goal.returns-in_default
-returns-in_default g c = record {
-  met = leave_absent g.F.Ring.ops g.F.Ring.plain c.args.number c.if-number-eq0.false c.args.self.now.cells.now c.in_default.ensures.found;
-  lent = refl;
-}
+pub returns-clause-met : goal.returns-clause-met
+returns-clause-met g c =
+    done_met g.F.Ring.ops g.F.Ring.plain (Leave c.args.number) c.args.self.now.cells.now c.take_out.new.cells (λ size l held.
+    let found = c.in_ok-k.ensures.found size l held in (found.0, c.take_out.ensures size l c.args.number held found.1))
 
-pub returns : goal.returns
-returns g c = record {
-  met = leave_done g.F.Ring.ops g.F.Ring.plain c.args.number c.if-number-eq0.false c.in-Some.k c.args.self.now.cells.now c.take_out.new.cells c.in-Some.ensures.found c.take_out.ensures;
-  lent = refl;
+pub invariant_of-self : goal.invariant_of-self
+invariant_of-self g c = record {
+  held = still g.F.Ring.ops g.F.Ring.plain (λ l. left l c.args.number) c.args.self.now.cells.now c.take_out.new.cells
+      (λ size l held. c.take_out.ensures size l c.args.number held (c.in_ok-k.ensures.found size l held).1) c.args.self.now.held;
 }
