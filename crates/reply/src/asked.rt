@@ -1,6 +1,6 @@
 //! The reply of a roster to a question.
 ghost use Rattle.std.specs.Prelude.{◌≡◌, ℕ, ◌<◌, ◌≤◌, true, false, ◌&&◌, length, Ok, MatchOption, MatchResult, nat_le};
-ghost use Rattle.roster.specs.Cells.{Holds};
+ghost use Rattle.roster.specs.Cells.{OfLedger};
 ghost use Rattle.roster.specs.Ledger.{Ledger};
 ghost use Rattle.reply.specs.Asked.{counted, asking, fields_for, unwritten_number, Written};
 ghost use Rattle.reply.specs.Rules.{replied, question_number};
@@ -43,8 +43,8 @@ fn figured<F: Copy>(question: Question, k: u32, res: Result<F, roster::Refusal>)
 fn answered<F: Packable>(roster: &Roster<'_, F>, question: u32, k: u32) -> Option<Reply<F>>
     ensures { MatchOption result
         ((nat_le 1 question && nat_le question 3) ≡ false)
-        (λ a. ((nat_le 1 question && nat_le question 3) ≡ true) × ((size : ℕ) (l : Ledger F) → Holds F.Ring.ops F.Ring.plain size l roster.now.cells.now
-        → replied F.Packable.KIND F.Packable.bits (length l.lives) a ≡ fields_for F.Ring.ops F.Ring.plain F.Packable.KIND F.Packable.bits l question k)) }
+        (λ a. ((nat_le 1 question && nat_le question 3) ≡ true) × OfLedger F.Ring.ops F.Ring.plain roster.now.cells.now
+        (λ l. replied F.Packable.KIND F.Packable.bits (length l.lives) a ≡ fields_for F.Ring.ops F.Ring.plain F.Packable.KIND F.Packable.bits l question k)) }
 {
     match question {
         1 => Some(figured(Question::Exactly, k, roster.exactly(k))),
@@ -84,8 +84,8 @@ pub fn reply_then_unpack<F: Packable>(
     question: u32,
     k: u32,
 ) -> Result<Result<Fields, Refusal>, Unwritten>
-    ensures { (size : ℕ) (l : Ledger F) → Holds F.Ring.ops F.Ring.plain size l roster.now.cells.now
-        → result ≡ asking 16 question (Ok (fields_for F.Ring.ops F.Ring.plain F.Packable.KIND F.Packable.bits l question k)) }
+    ensures { OfLedger F.Ring.ops F.Ring.plain roster.now.cells.now
+        (λ l. result ≡ asking 16 question (Ok (fields_for F.Ring.ops F.Ring.plain F.Packable.KIND F.Packable.bits l question k))) }
 {
     let mut bytes = [0; 16];
     reply(roster, question, k, &mut bytes)?;

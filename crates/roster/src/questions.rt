@@ -2,7 +2,7 @@
 ghost use Rattle.std.specs.Prelude.{◌≡◌, ℕ, ◌+◌, ◌<◌, ◌≤◌, length, MatchResult};
 ghost use Rattle.algebra.specs.Waring.{signed};
 ghost use Rattle.algebra.proofs.Waring.{entry, horner, summand};
-ghost use Rattle.roster.specs.Cells.{Holds, Met};
+ghost use Rattle.roster.specs.Cells.{OfLedger, Met};
 ghost use Rattle.roster.specs.Ledger.{Ledger, Exactly, AtLeast, figures};
 ghost use Rattle.roster.specs.Refusals.{figure_or};
 
@@ -36,7 +36,7 @@ fn signed<F: Ring>(t: usize, x: F) -> F
 /// The sum over t from 0 to m of (−1)^t · ways(j, t) · B(k+t) · d^(m−t), where B are the kept sums.
 fn alternating<F: Ring>(cells: &[Cell<F::Plain>], j: usize, k: usize, m: usize) -> F
     requires { (j + m ≤ 65) × ((m ≤ 64) × (k + m < length cells.now)) }
-    ensures { (size : ℕ) (l : Ledger F) → Holds F.Ring.ops F.Ring.plain size l cells.now → result ≡ horner F.Ring.ops l.whole (summand F.Ring.ops (figures l.lives) j k) (m + 1) }
+    ensures { OfLedger F.Ring.ops F.Ring.plain cells.now (λ l. result ≡ horner F.Ring.ops l.whole (summand F.Ring.ops (figures l.lives) j k) (m + 1)) }
 {
     let whole = F::from_plain(cells[0].figure);
     let ways = coefficients(j, m);
@@ -52,7 +52,7 @@ fn alternating<F: Ring>(cells: &[Cell<F::Plain>], j: usize, k: usize, m: usize) 
 /// It is exactly k for j = k + 1, and at least k for j = k.
 fn tail<F: Ring>(cells: &[Cell<F::Plain>], j: usize, k: usize) -> F
     requires { j ≤ k + 1 }
-    ensures { (size : ℕ) (l : Ledger F) → Holds F.Ring.ops F.Ring.plain size l cells.now → result ≡ entry F.Ring.ops l.whole (figures l.lives) j k }
+    ensures { OfLedger F.Ring.ops F.Ring.plain cells.now (λ l. result ≡ entry F.Ring.ops l.whole (figures l.lives) j k) }
 {
     let n = count::<F>(cells);
     if k > n {

@@ -4,7 +4,7 @@ ghost use Rattle.std.specs.List.{range_with_len};
 ghost use Rattle.algebra.specs.Ring.{semi};
 ghost use Rattle.algebra.proofs.Composition.{compose};
 ghost use Rattle.algebra.proofs.Waring.{entry};
-ghost use Rattle.roster.specs.Cells.{Holds, Met};
+ghost use Rattle.roster.specs.Cells.{OfLedger, Met};
 ghost use Rattle.roster.specs.Ledger.{Ledger, Composed, Triangle, figures};
 ghost use Rattle.roster.specs.Refusals.{table_or};
 ghost use Rattle.roster.specs.Triangle.{differences};
@@ -30,7 +30,8 @@ fn compose<F: Ring>(row: &mut [F::Plain], alive: F, dead: F)
 /// Where the triangle starts: B(r) · d^(n−r) at each place r of a row for n lives, B the kept sums and d the whole.
 fn weigh<F: Ring>(cells: &[Cell<F::Plain>], row: &mut [F::Plain])
     requires { (0 < length cells.now) × (length row.old ≤ length cells.now) }
-    ensures { (size : ℕ) (l : Ledger F) → Holds F.Ring.ops F.Ring.plain size l cells.now → length row.old ≡ length l.lives + 1 → row.new ≡ map F.Ring.plain (map (entry F.Ring.ops l.whole (figures l.lives) 0) (range_with_len 0 (length (figures l.lives) + 1))) }
+    ensures { OfLedger F.Ring.ops F.Ring.plain cells.now (λ l. length row.old ≡ length l.lives + 1
+        → row.new ≡ map F.Ring.plain (map (entry F.Ring.ops l.whole (figures l.lives) 0) (range_with_len 0 (length (figures l.lives) + 1)))) }
 {
     let whole = F::from_plain(cells[0].figure);
     let mut power = F::one();
