@@ -1,7 +1,7 @@
 //! Rows of exchangeable events, from a table of the weights that chosen events all occur.
 #![tactic(auto)]
 
-ghost use Rattle.std.specs.Prelude.{◌≡◌, ℕ, ◌+◌, ◌-◌, ◌^◌, ◌<◌, ◌≤◌, List, ◌∷◌, length, drop, pos, ◌*ℤ◌, ◌≤ℤ◌, ◌<ℤ◌, MatchOption, MatchResult, slice_index, slice_index_or};
+ghost use Rattle.std.specs.Prelude.{◌≡◌, ℕ, ◌+◌, ◌-◌, ◌^◌, ◌<◌, ◌≤◌, List, ◌∷◌, length, pos, ◌*ℤ◌, ◌≤ℤ◌, MatchResult, slice_index, slice_index_or};
 ghost use Rattle.algebra.specs.Binomial.{choose};
 ghost use Rattle.exchangeable.specs.Answer.{Admitted, Answered, Refused, number, place};
 ghost use Rattle.exchangeable.specs.Events.{value, top};

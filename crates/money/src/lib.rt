@@ -1,8 +1,7 @@
 //! The money row, and the factor taken from it.
 #![tactic(auto)]
 
-ghost use Rattle.std.specs.Prelude.{◌≡◌, ℕ, ◌+◌, ◌≤◌, length, take, drop, replicate, MatchResult, slice_index};
-ghost use Rattle.algebra.specs.Patterns.{naturals, total};
+ghost use Rattle.std.specs.Prelude.{◌≡◌, ℕ, ◌≤◌, length, replicate, MatchResult, slice_index};
 ghost use Rattle.money.specs.Answer.{Admitted, FactorAnswered, Refused, RowAnswered, number, place};
 ghost use Rattle.money.specs.Money.{pass, whole};
 
