@@ -4,6 +4,7 @@ ghost use Rattle.roster.specs.Ledger.{place_of};
 ghost use Rattle.roster.specs.Cells.{OfLedger};
 
 use crate::cells::Cell;
+use crate::rosters::Roster;
 use figures::Ring;
 
 /// The most lives that there are ever.
@@ -19,12 +20,14 @@ pub(crate) fn count<F: Ring>(cells: &[Cell<F::Plain>]) -> usize
     lives.take_while(|life| life.number != 0).count()
 }
 
-/// The place of the first life with this number.
-pub(crate) fn place<F: Ring>(cells: &[Cell<F::Plain>], number: u32) -> Option<usize>
-    ensures within { IfSome result (λ k. (0 < k) × (k < length cells.now)) }
-    ensures found { OfLedger F.Ring.ops F.Ring.plain cells.now (λ l. result ≡ place_of number l.lives) }
-{
-    let n = count::<F>(cells);
-    let mut lives = cells.iter().skip(1).take(n);
-    lives.position(|life| life.number == number).map(|i| i + 1)
+impl<F: Ring> Roster<'_, F> {
+    /// The place of the first life with this number.
+    pub fn find(&self, number: u32) -> Option<usize>
+        ensures within { IfSome result (λ k. (0 < k) × (k < length self.now.cells.now)) }
+        ensures found { OfLedger F.Ring.ops F.Ring.plain self.now.cells.now (λ l. result ≡ place_of number l.lives) }
+    {
+        let n = self.lives();
+        let mut lives = self.cells.iter().skip(1).take(n);
+        lives.position(|life| life.number == number).map(|i| i + 1)
+    }
 }

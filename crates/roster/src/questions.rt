@@ -11,6 +11,7 @@ use crate::coefficients::coefficients;
 use crate::counting::count;
 use crate::multiples::multiple;
 use crate::refusals::Refusal;
+use crate::rosters::Roster;
 use figures::Ring;
 
 /// The largest count that may be asked for.
@@ -65,19 +66,21 @@ fn tail<F: Ring>(cells: &[Cell<F::Plain>], j: usize, k: usize) -> F
     alternating(cells, j, k, n - k)
 }
 
-// Two functions, since each promises the answer to another of the ledger's calls.
-/// Exactly k alive.
-pub(crate) fn exactly_of<F: Ring>(cells: &[Cell<F::Plain>], k: u32) -> Result<F, Refusal>
-    ensures { Met F.Ring.ops F.Ring.plain (Exactly k) cells.now (figure_or result) cells.now }
-{
-    let k = admitted(k)?;
-    Ok(tail(cells, k + 1, k))
-}
+/// Questions alter no cell.
+impl<F: Ring> Roster<'_, F> {
+    /// Exactly k alive.
+    pub fn exactly(&self, k: u32) -> Result<F, Refusal>
+        ensures { Met F.Ring.ops F.Ring.plain (Exactly k) self.now.cells.now (figure_or result) self.now.cells.now }
+    {
+        let k = admitted(k)?;
+        Ok(tail(self.cells, k + 1, k))
+    }
 
-/// At least k alive.
-pub(crate) fn at_least_of<F: Ring>(cells: &[Cell<F::Plain>], k: u32) -> Result<F, Refusal>
-    ensures { Met F.Ring.ops F.Ring.plain (AtLeast k) cells.now (figure_or result) cells.now }
-{
-    let k = admitted(k)?;
-    Ok(tail(cells, k, k))
+    /// At least k alive.
+    pub fn at_least(&self, k: u32) -> Result<F, Refusal>
+        ensures { Met F.Ring.ops F.Ring.plain (AtLeast k) self.now.cells.now (figure_or result) self.now.cells.now }
+    {
+        let k = admitted(k)?;
+        Ok(tail(self.cells, k, k))
+    }
 }

@@ -6,11 +6,9 @@ ghost use Rattle.roster.specs.Refusals.{done_or, figure_or, table_or};
 ghost use Rattle.roster.specs.declared.refusals.Refusal.TheVariants.{OtherCells};
 
 use crate::cells::Cell;
-use crate::counting::{MOST, count, place};
+use crate::counting::{MOST, count};
 use crate::edits::{alter, put_in, take_out};
-use crate::questions::{at_least_of, exactly_of};
 use crate::refusals::Refusal;
-use crate::rows::{composed_row_of, triangle_row_of};
 use crate::slips::{Slip, Unclosed};
 use crate::writing::{lay_out, wipe};
 use figures::Ring;
@@ -18,7 +16,7 @@ use figures::Ring;
 /// Lives by number, each with its figure, in cells that are lent to it. All that it knows lies in the cells.
 #[derive(Drop)]
 pub struct Roster<'a, F: Ring> {
-    cells: &'a mut [Cell<F::Plain>],
+    pub(crate) cells: &'a mut [Cell<F::Plain>],
     // Whatever was done, the cells hold a ledger.
     ghost held: { ∥ HoldSome F.Ring.ops F.Ring.plain cells.now ∥₁ },
 }
@@ -46,14 +44,6 @@ impl<'a, F: Ring> Roster<'a, F> {
         ensures counted { OfLedger F.Ring.ops F.Ring.plain self.now.cells.now (λ l. result ≡ length l.lives) }
     {
         count::<F>(self.cells)
-    }
-
-    /// The place of the first life with this number.
-    pub fn find(&self, number: u32) -> Option<usize>
-        ensures within { IfSome result (λ k. (0 < k) × (k < length self.now.cells.now)) }
-        ensures found { OfLedger F.Ring.ops F.Ring.plain self.now.cells.now (λ l. result ≡ place_of number l.lives) }
-    {
-        place::<F>(self.cells, number)
     }
 
     /// The place of a life that is to leave or to change.
@@ -112,33 +102,6 @@ impl<'a, F: Ring> Roster<'a, F> {
         if !cells.is_empty() {
             wipe::<F>(&mut cells[1..]);
         }
-    }
-}
-
-/// The questions: they alter no cell.
-impl<F: Ring> Roster<'_, F> {
-    pub fn exactly(&self, k: u32) -> Result<F, Refusal>
-        ensures { Met F.Ring.ops F.Ring.plain (Exactly k) self.now.cells.now (figure_or result) self.now.cells.now }
-    {
-        exactly_of::<F>(self.cells, k)
-    }
-
-    pub fn at_least(&self, k: u32) -> Result<F, Refusal>
-        ensures { Met F.Ring.ops F.Ring.plain (AtLeast k) self.now.cells.now (figure_or result) self.now.cells.now }
-    {
-        at_least_of::<F>(self.cells, k)
-    }
-
-    pub fn composed_row(&self, table: &mut [F::Plain]) -> Result<(), Refusal>
-        ensures { Met F.Ring.ops F.Ring.plain (Composed table.old) self.now.cells.now (table_or result table.new) self.now.cells.now }
-    {
-        composed_row_of::<F>(self.cells, table)
-    }
-
-    pub fn triangle_row(&self, table: &mut [F::Plain]) -> Result<(), Refusal>
-        ensures { Met F.Ring.ops F.Ring.plain (Triangle table.old) self.now.cells.now (table_or result table.new) self.now.cells.now }
-    {
-        triangle_row_of::<F>(self.cells, table)
     }
 }
 

@@ -12,6 +12,7 @@ ghost use Rattle.roster.specs.Triangle.{differences};
 use crate::cells::Cell;
 use crate::counting::count;
 use crate::refusals::Refusal;
+use crate::rosters::Roster;
 use figures::Ring;
 
 /// One life more in a row whose last entry is new and zero, in place: each entry becomes
@@ -54,51 +55,50 @@ fn differences<F: Ring>(row: &mut [F::Plain])
     }
 }
 
-/// The row by composition: from the single entry one, one life after the other.
-pub(crate) fn composed_row_of<F: Ring>(
-    cells: &[Cell<F::Plain>],
-    table: &mut [F::Plain],
-) -> Result<(), Refusal>
-    ensures { Met F.Ring.ops F.Ring.plain (Composed table.old) cells.now (table_or result table.new) cells.now }
-{
-    let n = count::<F>(cells);
-    if table.len() <= n {
-        return Err(Refusal::ShortTable);
-    }
-    table[0] = F::one().to_plain();
-    // With no cells there is no life.
-    let Some((first, lives)) = cells.split_first() else {
-        return Ok(());
-    };
-    let whole = F::from_plain(first.figure);
-    for (i, life) in lives[..n].iter().enumerate() {
-        let alive = F::from_plain(life.figure);
-        table[i + 1] = F::zero().to_plain();
-        compose(&mut table[..=i + 1], alive, whole.add(alive.neg()));
-    }
-    Ok(())
-}
-
-/// The row by the triangle: from the kept sums, passes of differences, each one place shorter.
-pub(crate) fn triangle_row_of<F: Ring>(
-    cells: &[Cell<F::Plain>],
-    table: &mut [F::Plain],
-) -> Result<(), Refusal>
-    ensures { Met F.Ring.ops F.Ring.plain (Triangle table.old) cells.now (table_or result table.new) cells.now }
-{
-    let last = count::<F>(cells);
-    if table.len() <= last {
-        return Err(Refusal::ShortTable);
-    }
-    // With no cells there is no whole to read; and no life, so that nobody alive is certain.
-    if cells.is_empty() {
+/// Rows alter no cell.
+impl<F: Ring> Roster<'_, F> {
+    /// The row by composition: from the single entry one, one life after the other.
+    pub fn composed_row(&self, table: &mut [F::Plain]) -> Result<(), Refusal>
+        ensures { Met F.Ring.ops F.Ring.plain (Composed table.old) self.now.cells.now (table_or result table.new) self.now.cells.now }
+    {
+        let cells = &*self.cells;
+        let n = count::<F>(cells);
+        if table.len() <= n {
+            return Err(Refusal::ShortTable);
+        }
         table[0] = F::one().to_plain();
-        return Ok(());
+        // With no cells there is no life.
+        let Some((first, lives)) = cells.split_first() else {
+            return Ok(());
+        };
+        let whole = F::from_plain(first.figure);
+        for (i, life) in lives[..n].iter().enumerate() {
+            let alive = F::from_plain(life.figure);
+            table[i + 1] = F::zero().to_plain();
+            compose(&mut table[..=i + 1], alive, whole.add(alive.neg()));
+        }
+        Ok(())
     }
-    let row = &mut table[..=last];
-    weigh::<F>(cells, row);
-    for i in 0..last {
-        differences::<F>(&mut row[i..]);
+
+    /// The row by the triangle: from the kept sums, passes of differences, each one place shorter.
+    pub fn triangle_row(&self, table: &mut [F::Plain]) -> Result<(), Refusal>
+        ensures { Met F.Ring.ops F.Ring.plain (Triangle table.old) self.now.cells.now (table_or result table.new) self.now.cells.now }
+    {
+        let cells = &*self.cells;
+        let last = count::<F>(cells);
+        if table.len() <= last {
+            return Err(Refusal::ShortTable);
+        }
+        // With no cells there is no whole to read; and no life, so that nobody alive is certain.
+        if cells.is_empty() {
+            table[0] = F::one().to_plain();
+            return Ok(());
+        }
+        let row = &mut table[..=last];
+        weigh::<F>(cells, row);
+        for i in 0..last {
+            differences::<F>(&mut row[i..]);
+        }
+        Ok(())
     }
-    Ok(())
 }

@@ -1,6 +1,6 @@
 use Rattle.roster.specs.Ledger.{Exactly, answer, is_refused}
 use Rattle.roster.proofs.QuestionsRead.{asked, exactly_asked}
-use Rattle.roster.proofs.questions.exactly_of.Goals as goal
+use Rattle.roster.proofs.rosters.Roster.exactly.Goals as goal
 
 pub returns : goal.returns
 returns g c size l held =

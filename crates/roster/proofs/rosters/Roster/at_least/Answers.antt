@@ -1,6 +1,6 @@
 use Rattle.roster.specs.Ledger.{AtLeast, answer, is_refused}
 use Rattle.roster.proofs.QuestionsRead.{asked, at_least_asked}
-use Rattle.roster.proofs.questions.at_least_of.Goals as goal
+use Rattle.roster.proofs.rosters.Roster.at_least.Goals as goal
 
 pub returns : goal.returns
 returns g c size l held =

@@ -8,7 +8,7 @@ use Rattle.roster.specs.Triangle.{differences}
 use Rattle.roster.proofs.QuestionsRead.{asked, row_asked}
 use Rattle.roster.proofs.RowsTable.{written_from}
 use Rattle.roster.proofs.RowsTriangle.{passes_more, passes_all}
-use Rattle.roster.proofs.rows.triangle_row_of.Goals as goal
+use Rattle.roster.proofs.rosters.Roster.triangle_row.Goals as goal
 
 pub loop-i-preserved : goal.loop-i-preserved
 loop-i-preserved g c d ps lives first =

@@ -9,7 +9,7 @@ use Rattle.roster.specs.Ledger.{Composed, figures, answer, is_refused}
 use Rattle.roster.proofs.Laying.{length_held}
 use Rattle.roster.proofs.QuestionsRead.{read_figure, asked, row_asked}
 use Rattle.roster.proofs.RowsComposed.{row_first, row_nobody, against_more, length_against, composed_split, composed_join, composed_all, compose_joins}
-use Rattle.roster.proofs.rows.composed_row_of.Goals as goal
+use Rattle.roster.proofs.rosters.Roster.composed_row.Goals as goal
 
 -- A count of lives is within the cells after the first.
 fits : (n size rest : ℕ) → (0 < n → n < size) → rest + 1 ≡ size → n ≤ rest
@@ -34,7 +34,7 @@ loop-i-preserved g c size led held =
     let ps = figures led.lives in
     let i = c.loop-i.i in
     let n = c.count-n.result in
-    let cells = c.args.cells.now in
+    let cells = c.args.self.now.cells.now in
     let others = c.in-Some.lives.now in
     let x = c.life-item.result in
     let w = c.to_plain.result in
@@ -77,7 +77,7 @@ returns-in_default g c size led held =
     let o = g.F.Ring.ops in
     let plain = g.F.Ring.plain in
     let table = c.args.table.now in
-    let empty : length c.args.cells.now ≡ 0 = c.in_default.ensures.cases in
+    let empty : length c.args.self.now.cells.now ≡ 0 = c.in_default.ensures.cases in
     let nobody : length led.lives ≡ 0 = omega (arith, length_held held) in
     let len : length (figures led.lives) ≡ 0 = rw length-map nobody in (
       row_asked o plain led table _ 0 (sym nobody) (omega arith) (row_nobody g.met.F.Ring.laws plain led.whole (figures led.lives) table c.one.result c.to_plain.result len (omega arith) c.one.ensures c.to_plain.ensures),

@@ -2,7 +2,7 @@ use Rattle.std.proofs.Common.{◌≡◌, ◌+◌, List, map, length}
 use Rattle.std.specs.List.{range_with_len}
 use Rattle.algebra.proofs.Waring.{entry}
 use Rattle.roster.proofs.RowsTriangle.{passes}
-use Rattle.roster.proofs.rows.triangle_row_of.Given as goal
+use Rattle.roster.proofs.rosters.Roster.triangle_row.Given as goal
 
 -- So many passes are done.
 abbrev pub invariant-loop-i : goal.invariant-loop-i
