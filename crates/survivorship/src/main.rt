@@ -45,7 +45,6 @@ fn main(rt: HostRuntime) -> anyhow::Result<ExitCode> {
         return Ok(ExitCode::FAILURE);
     };
     let mut console = Console {
-        heap: rt.alloc(),
         lines: Lines::new(rt.alloc(), &input),
         printer: Printer::new(rt.alloc(), rt.stdout())?,
     };

@@ -11,6 +11,7 @@ use std::io::{self, BufWriter, ErrorKind, Stdout, Write};
 /// What is printed, and whether every line so far was understood.
 #[derive(Drop)]
 pub struct Printer {
+    pub heap: Global,
     out: BufWriter<Stdout>,
     understood: bool,
 }
@@ -21,6 +22,7 @@ impl Printer {
         ensures { IfErr result (λ e. error_kind e ≡ ErrorKind.OutOfMemory) }
     {
         Ok(Printer {
+            heap,
             out: BufWriter::new(heap, out)?,
             understood: true,
         })
@@ -45,12 +47,12 @@ impl Printer {
 
     /// A command's words, an arrow and what came of it.
     fn line(&mut self, words: &[&[u8]], answer: &impl Display) -> anyhow::Result<()> {
+        let mut echoed = Vec::new(self.heap);
         for word in words {
-            for b in *word {
-                self.out.write_all(&[echo(*b)])?;
-            }
-            self.out.write_all(b" ")?;
+            echoed.extend(word.iter().map(|b| echo(*b)))?;
+            echoed.push(b' ')?;
         }
+        self.out.write_all(&echoed)?;
         writeln!(self.out, "-> {answer}")?;
         Ok(())
     }

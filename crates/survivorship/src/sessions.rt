@@ -18,13 +18,13 @@ use std::alloc::Global;
 /// What is read and what is printed.
 #[derive(Drop)]
 pub struct Console<'a> {
-    pub heap: Global,
     pub lines: Lines<'a>,
     pub printer: Printer,
 }
 
 /// Obeys every line.
 pub fn run(console: &mut Console) -> anyhow::Result<()> {
+    let heap = console.printer.heap;
     while let Some(words) = console.lines.next_command()? {
         let words = words.as_slice();
         match words {
@@ -42,7 +42,7 @@ pub fn run(console: &mut Console) -> anyhow::Result<()> {
             [b"open", b"slope-scenario", cells, whole] => session::<Dual<Scenarios>>(
                 console, words, cells, whole,
             )?,
-            _ => console.printer.print(words, obey(console.heap, words))?,
+            _ => console.printer.print(words, obey(heap, words))?,
         }
     }
     Ok(())
@@ -68,7 +68,7 @@ where
         sum: zero,
         number: 0,
     };
-    let mut cells = filled(console.heap, blank, count)?;
+    let mut cells = filled(console.printer.heap, blank, count)?;
     let slip = take_into_use(&cells);
     let mut roster = Roster::open(&slip, &mut cells, F::from_plain(whole));
     let held = converse(console, opening, &mut roster);
@@ -78,7 +78,7 @@ where
         Err(_) => unreachable(),
     }
     held?;
-    let closed = done(console.heap)?;
+    let closed = done(console.printer.heap)?;
     console.printer.print(&[b"close"], Ok(closed))
 }
 
@@ -92,13 +92,13 @@ where
     F::Plain: Typed,
     ensures { left console.new.lines ≤ left console.old.lines }
 {
-    let opened = done(console.heap)?;
+    let opened = done(console.printer.heap)?;
     console.printer.print(opening, Ok(opened))?;
     while let Some(words) = console.lines.next_command()? {
         if let [b"close"] = words.as_slice() {
             break;
         }
-        let answer = ask(console.heap, roster, &words);
+        let answer = ask(console.printer.heap, roster, &words);
         console.printer.print(&words, answer)?;
     }
     Ok(())

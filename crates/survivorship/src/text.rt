@@ -1,7 +1,7 @@
 //! Bytes, hex and records as text.
-ghost use Rattle.std.specs.Prelude.{◌≡◌, ℕ, ◌<◌, ◌≤◌, Some, IfSome, IfOk, vec_items, string_bytes};
+ghost use Rattle.std.specs.Prelude.{◌≡◌, ℕ, ◌<◌, ◌≤◌, length, Some, IfSome, IfOk, vec_items, string_bytes};
 ghost use Rattle.std.specs.Option.{option_map};
-ghost use Rattle.survivorship.specs.Text.{blank, echoed, hex_digit, hex_bytes, hex_text, fields_text};
+ghost use Rattle.survivorship.specs.Text.{blank, echoed, hex_digit, hex_bytes, hex_char, hex_text, fields_text};
 
 use reply::Fields;
 use std::alloc::{AllocError, Global};
@@ -48,6 +48,19 @@ pub fn hex_bytes(heap: Global, word: &[u8]) -> Result<Option<Vec<u8>>, AllocErro
     Ok(Some(bytes))
 }
 
+/// A hex digit as it is printed, in lower case.
+fn hex_char(digit: u8) -> u8
+    requires { digit < 16 }
+    ensures value { result ≡ hex_char digit }
+    ensures ascii { result < 128 }
+{
+    if digit < 10 {
+        b'0' + digit
+    } else {
+        b'a' + (digit - 10)
+    }
+}
+
 /// Bytes as hex digits, two for each, in lower case.
 #[derive(Drop)]
 pub struct Hex<'a>(pub &'a [u8]);
@@ -57,7 +70,8 @@ impl fmt::Display for Hex<'_> {
 
     fn fmt<W: fmt::Write>(&self, f: &mut fmt::Formatter<W>) -> fmt::Result {
         for &b in self.0 {
-            write!(f, "{b:02x}")?;
+            f.write_char(hex_char(b / 16) as char)?;
+            f.write_char(hex_char(b % 16) as char)?;
         }
         Ok(())
     }
