@@ -1,8 +1,6 @@
 -- Reading and printing hex digits two by two. Assumes nothing.
-use Rattle.std.proofs.Common.{◌≡◌, ℕ, suc, ◌+◌, ◌*◌, ◌/◌, ◌%◌, ◌^◌, ◌-◌, ◌<◌, ◌≤◌, false, List, [], ◌∷◌, ◌++◌, length, get_or, take, drop, Some, None, Option, sym, refl, ap, ◌∙◌, append_assoc, append-nil, arith}
+use Rattle.std.proofs.Common.{◌≡◌, ℕ, suc, ◌+◌, ◌*◌, ◌/◌, ◌%◌, ◌<◌, ◌≤◌, List, [], ◌∷◌, ◌++◌, length, get_or, take, drop, Some, None, Option, sym, refl, ap, ◌∙◌, append_assoc, append-nil, arith}
 use Rattle.std.proofs.lemmas.List.{drop_all, drop_more, take_more}
-use Rattle.std.proofs.lemmas.Str.Ascii.{encode_ascii}
-use Rattle.std.specs.Char.{encode_utf8}
 use Rattle.std.specs.Simd.{first_chunks}
 use Rattle.survivorship.specs.Text.{hex_digit, joined, hex_bytes, hex_char, hex_text}
 
@@ -74,14 +72,15 @@ pub pairs_all : (pairs : List (List ℕ)) (i : ℕ) (xs : List ℕ) (bytes : Opt
 pairs_all pairs i xs bytes h inv = sym inv ∙ ap (λ ps. onto xs (pairs_read ps)) (drop_all i pairs h) ∙ ap Some (append-nil xs)
 
 -- one byte more as it is printed, by its two digits
-pub text_more : (bytes : List ℕ) (i high low : ℕ) → i < length bytes → high ≡ hex_char (get_or bytes i 0 / 16) → low ≡ hex_char (get_or bytes i 0 % 16)
-    → high < 128 → low < 128 → (hex_text (take i bytes) ++ encode_utf8 high) ++ encode_utf8 low ≡ hex_text (take (i + 1) bytes)
-text_more bytes i high low h e f high_fits low_fits =
-    append_assoc (hex_text (take i bytes)) (encode_utf8 high) (encode_utf8 low)
-    ∙ ap (λ t. hex_text (take i bytes) ++ (t ++ encode_utf8 low)) (encode_ascii high high_fits ∙ ap (λ d. d ∷ []) e)
-    ∙ ap (λ t. hex_text (take i bytes) ++ (hex_char (get_or bytes i 0 / 16) ∷ t)) (encode_ascii low low_fits ∙ ap (λ d. d ∷ []) f)
-    ∙ sym (ap hex_text (take_more bytes i 0 h) ∙ hex_text_append (take i bytes) (get_or bytes i 0 ∷ []))
+pub text_more : (bytes : List ℕ) (i high low : ℕ) (written : List ℕ) → i < length bytes → high ≡ hex_char (get_or bytes i 0 / 16) → low ≡ hex_char (get_or bytes i 0 % 16)
+    → written ≡ hex_text (take i bytes) → (written ++ (high ∷ [])) ++ (low ∷ []) ≡ hex_text (take (i + 1) bytes)
+text_more bytes i high low written h e f w =
+    append_assoc written (high ∷ []) (low ∷ [])
+    ∙ ap (λ t. t ++ (high ∷ low ∷ [])) w
+    ∙ ap (λ d. hex_text (take i bytes) ++ (d ∷ low ∷ [])) e
+    ∙ ap (λ d. hex_text (take i bytes) ++ (hex_char (get_or bytes i 0 / 16) ∷ d ∷ [])) f
+    ∙ sym (ap hex_text (take_more bytes i 0 h) ∙ both (take i bytes) (get_or bytes i 0 ∷ []))
   where
-    hex_text_append : (xs ys : List ℕ) → hex_text (xs ++ ys) ≡ hex_text xs ++ hex_text ys
-    hex_text_append [] ys = refl
-    hex_text_append (x ∷ xs) ys = ap (λ t. hex_char (x / 16) ∷ hex_char (x % 16) ∷ t) (hex_text_append xs ys)
+    both : (xs ys : List ℕ) → hex_text (xs ++ ys) ≡ hex_text xs ++ hex_text ys
+    both [] ys = refl
+    both (x ∷ xs) ys = ap (λ t. hex_char (x / 16) ∷ hex_char (x % 16) ∷ t) (both xs ys)

@@ -3,15 +3,15 @@
 
 mod answers;
 mod commands;
+mod console;
 mod numbers;
-mod printer;
 mod sessions;
 mod text;
 mod typed;
 mod words;
 
-use printer::Printer;
-use sessions::{Console, run};
+use console::{Console, Printer};
+use sessions::run;
 use std::io::Read;
 use std::process::ExitCode;
 use std::{env, fs};

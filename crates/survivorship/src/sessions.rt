@@ -5,22 +5,14 @@ ghost use Rattle.survivorship.specs.Reading.{left};
 use crate::answers::Unanswered::{self, NotUnderstood};
 use crate::answers::{done, filled, table_text};
 use crate::commands::obey;
+use crate::console::Console;
 use crate::numbers::{short_number, size};
-use crate::printer::Printer;
-use crate::text::Hex;
+use crate::text::hex_text;
 use crate::typed::Typed;
-use crate::words::Lines;
 use figures::{Dual, Packable, Residue, Ring, Scenarios, Word};
 use reply::asked;
 use roster::{Cell, Roster, close, take_into_use};
 use std::alloc::Global;
-
-/// What is read and what is printed.
-#[derive(Drop)]
-pub struct Console<'a> {
-    pub lines: Lines<'a>,
-    pub printer: Printer,
-}
 
 /// Obeys every line.
 pub fn run(console: &mut Console) -> anyhow::Result<()> {
@@ -78,8 +70,7 @@ where
         Err(_) => unreachable(),
     }
     held?;
-    let closed = done(console.printer.heap)?;
-    console.printer.print(&[b"close"], Ok(closed))
+    console.printer.print_done(&[b"close"])
 }
 
 /// Answers `open`, and obeys the lines up to `close`, or to the end of the input.
@@ -92,8 +83,7 @@ where
     F::Plain: Typed,
     ensures { left console.new.lines ≤ left console.old.lines }
 {
-    let opened = done(console.printer.heap)?;
-    console.printer.print(opening, Ok(opened))?;
+    console.printer.print_done(opening)?;
     while let Some(words) = console.lines.next_command()? {
         if let [b"close"] = words.as_slice() {
             break;
@@ -116,18 +106,17 @@ where
     let text = match words {
         [b"join", number, figure] => {
             let number = short_number(number).ok_or(NotUnderstood)?;
-            let figure = F::Plain::read(figure).ok_or(NotUnderstood)?;
-            roster.join(number, F::from_plain(figure))?;
+            roster.join(number, read(figure)?)?;
             done(heap)
         }
         [b"leave", number] => {
-            roster.leave(short_number(number).ok_or(NotUnderstood)?)?;
+            let number = short_number(number).ok_or(NotUnderstood)?;
+            roster.leave(number)?;
             done(heap)
         }
         [b"change", number, figure] => {
             let number = short_number(number).ok_or(NotUnderstood)?;
-            let figure = F::Plain::read(figure).ok_or(NotUnderstood)?;
-            roster.change(number, F::from_plain(figure))?;
+            roster.change(number, read(figure)?)?;
             done(heap)
         }
         [b"clear"] => {
@@ -165,11 +154,20 @@ where
             let k = short_number(k).ok_or(NotUnderstood)?;
             let mut out = filled(heap, 0u8, size(bytes).ok_or(NotUnderstood)?)?;
             asked::reply(roster, question, k, &mut out)?;
-            Hex(&out).to_string(heap)
+            hex_text(heap, &out)
         }
         _ => return obey(heap, words),
     };
     Ok(text?)
+}
+
+/// The figure that a word writes.
+fn read<F: Packable>(word: &[u8]) -> Result<F, Unanswered>
+where
+    F::Plain: Typed,
+{
+    let figure = F::Plain::read(word).ok_or(NotUnderstood)?;
+    Ok(F::from_plain(figure))
 }
 
 /// A table of zeros, of as many entries as a word says.

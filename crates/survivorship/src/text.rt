@@ -1,11 +1,10 @@
 //! Bytes, hex and records as text.
-ghost use Rattle.std.specs.Prelude.{◌≡◌, ℕ, ◌<◌, ◌≤◌, length, Some, IfSome, IfOk, vec_items, string_bytes};
+ghost use Rattle.std.specs.Prelude.{◌≡◌, ℕ, ◌<◌, ◌≤◌, IfSome, IfOk, vec_items, string_bytes};
 ghost use Rattle.std.specs.Option.{option_map};
 ghost use Rattle.survivorship.specs.Text.{blank, echoed, hex_digit, hex_bytes, hex_char, hex_text, fields_text};
 
 use reply::Fields;
 use std::alloc::{AllocError, Global};
-use std::fmt;
 
 pub fn is_blank(b: u8) -> bool
     ensures { result ≡ blank b }
@@ -23,12 +22,7 @@ pub fn hex_digit(c: u8) -> Option<u8>
     ensures value { result ≡ hex_digit c }
     ensures small { IfSome result (λ d. d < 16) }
 {
-    match c {
-        b'0'..=b'9' => Some(c - b'0'),
-        b'a'..=b'f' => Some(c - b'a' + 10),
-        b'A'..=b'F' => Some(c - b'A' + 10),
-        _ => None,
-    }
+    (c as char).to_digit(16).map(|digit| digit as u8)
 }
 
 /// The bytes that a word of hex digits writes.
@@ -61,20 +55,17 @@ fn hex_char(digit: u8) -> u8
     }
 }
 
-/// Bytes as hex digits, two for each, in lower case.
-#[derive(Drop)]
-pub struct Hex<'a>(pub &'a [u8]);
-
-impl fmt::Display for Hex<'_> {
-    ghost output = { λ h. Some (hex_text h.0.now) };
-
-    fn fmt<W: fmt::Write>(&self, f: &mut fmt::Formatter<W>) -> fmt::Result {
-        for &b in self.0 {
-            f.write_char(hex_char(b / 16) as char)?;
-            f.write_char(hex_char(b % 16) as char)?;
-        }
-        Ok(())
+/// Bytes as hex digits, two for each.
+// Pushed, and no `Display`: a formatter takes several times as long for each digit.
+pub fn hex_text(heap: Global, bytes: &[u8]) -> Result<String, AllocError>
+    ensures { IfOk result (λ s. string_bytes s ≡ hex_text bytes.now) }
+{
+    let mut text = String::new(heap);
+    for b in bytes {
+        text.push(hex_char(b / 16) as char)?;
+        text.push(hex_char(b % 16) as char)?;
     }
+    Ok(text)
 }
 
 // No `Display`: `Fields` is another crate's.

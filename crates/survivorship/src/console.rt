@@ -1,12 +1,20 @@
-//! What is printed for each line.
+//! The lines that are read, and what is printed for each.
 ghost use Rattle.std.specs.Prelude.{◌≡◌, IfErr};
 ghost use Rattle.std.specs.IoError.{error_kind};
 
-use crate::answers::Unanswered;
+use crate::answers::{Unanswered, done};
 use crate::text::echo;
+use crate::words::Lines;
 use std::alloc::{AllocError, Global};
 use std::fmt::Display;
 use std::io::{self, BufWriter, ErrorKind, Stdout, Write};
+
+/// What is read and what is printed.
+#[derive(Drop)]
+pub struct Console<'a> {
+    pub lines: Lines<'a>,
+    pub printer: Printer,
+}
 
 /// What is printed, and whether every line so far was understood.
 #[derive(Drop)]
@@ -43,6 +51,11 @@ impl Printer {
             }
             Err(Unanswered::NoMemory) => Err(AllocError.into()),
         }
+    }
+
+    pub fn print_done(&mut self, words: &[&[u8]]) -> anyhow::Result<()> {
+        let answer = done(self.heap)?;
+        self.print(words, Ok(answer))
     }
 
     /// A command's words, an arrow and what came of it.
