@@ -29,6 +29,7 @@ pub enum Refusal {
 
 impl Refusal {
     /// The refusal's number.
+    // No `From`: the name says which number it is.
     pub fn number(self) -> u32
         ensures { result ≡ number self }
     {
@@ -101,6 +102,7 @@ impl<'a> Table<'a> {
     }
 
     /// V(k, m) at each place k up to m.
+    // An array for the longest table: no call takes memory.
     fn column(&self, m: usize) -> [i64; LENGTH]
         requires { m ≤ top self.now.coefficients.now }
         ensures { (k : ℕ) → k < m + 1 → slice_index_or result k (pos 0) ≡ value self.now.coefficients.now k m }
@@ -128,6 +130,7 @@ fn next_binomials(row: &mut [u64])
 }
 
 /// C(m, k) at each place k.
+// An array for the longest row: no call takes memory.
 fn binomials(m: usize) -> [u64; LENGTH]
     requires { m < 33 }
     ensures { (k : ℕ) → k < 33 → slice_index result k ≡ choose m k }
@@ -148,6 +151,7 @@ fn multiply(out: &mut [u64], factors: &[u64], values: &[i64])
     ensures { (k : ℕ) → k < length out.old
         → pos (slice_index out.new k) ≡ pos (slice_index factors.now k) *ℤ slice_index_or values.now k (pos 0) }
 {
+    // No zip: a proof knows nothing of what is written through one.
     for (k, entry) in out.iter_mut().enumerate() {
         *entry = factors[k] * values[k] as u64;
     }

@@ -1,4 +1,5 @@
-//! The four kinds of figures, as types. A bound on the number is part of a type, so that the laws hold for all its values.
+//! The four kinds of figures, as types. A bound on the number is part of a type, so that the laws hold for all its values:
+//! no `impl Model` shows them as their numbers, of which the laws do not hold.
 ghost use Rattle.std.specs.Prelude.{◌^◌, ◌<◌};
 
 /// A 64-bit number, worked modulo 2^64.

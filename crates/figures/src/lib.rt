@@ -40,6 +40,7 @@ pub trait Ring: Copy {
     fn mul(self, other: Self) -> Self
         ensures { result ≡ ops.times self other };
 
+    // No `From` and `Into`: for a slope they would meet the library's `From` of a type for itself.
     fn from_plain(written: Self::Plain) -> Self
         ensures { result ≡ figure written };
 
@@ -66,6 +67,7 @@ pub trait Packable: Ring {
     // The number that a figure is packed as.
     ghost bits: { Self → ℕ };
 
+    // No `Into`: a slope's rate is left out.
     fn reply_bits(self) -> u64
         ensures { result ≡ bits self };
 

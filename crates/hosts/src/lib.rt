@@ -10,6 +10,7 @@ use exchangeable::{Refusal as TableRefusal, exchangeable_row};
 use money::{Refusal as MoneyRefusal, factor, money_row};
 
 /// What came of a call.
+// Numbers, as C wants them.
 #[repr(C)]
 #[derive(Clone, Copy, PartialEq, Eq, Debug)]
 pub struct Outcome {

@@ -26,6 +26,7 @@ pub enum Refusal {
 
 impl Refusal {
     /// The refusal's number.
+    // No `From`: the name says which number it is.
     pub fn number(self) -> u32
         ensures { result ≡ number self }
     {

@@ -18,6 +18,7 @@ pub enum Unwritten {
 
 impl Unwritten {
     /// The refusal's number.
+    // No `From`: the name says which number it is.
     pub fn number(self) -> u32
         ensures { result ≡ unwritten_number self }
     {

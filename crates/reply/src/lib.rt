@@ -41,6 +41,7 @@ pub struct Record<F> {
 }
 
 /// The six fields of a record as numbers. The spare between lives and figure is no field: it is zero.
+// Numbers, not enums: the promises are about these six numbers, and so is the test of what is acceptable.
 #[derive(Clone, Copy, PartialEq, Eq, Debug)]
 pub struct Fields {
     pub kind: u8,
@@ -59,6 +60,7 @@ pub enum Refusal {
 }
 
 impl Refusal {
+    // No `From`: the name says which number it is.
     pub fn number(self) -> u32
         ensures { result ≡ refusal_number self }
     {
@@ -68,6 +70,7 @@ impl Refusal {
 
 impl Count {
     /// None above 64.
+    // As `NonZero::new`, which is an `Option` too.
     pub fn new(number: u8) -> Option<Count>
         ensures { MatchOption result (64 < number) (λ n. n.number ≡ number) }
     {

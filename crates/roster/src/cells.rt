@@ -5,5 +5,6 @@
 pub struct Cell<P> {
     pub figure: P,
     pub sum: P,
+    // 0 where there is no life: what a cell holds is promised field by field.
     pub number: u32,
 }

@@ -14,6 +14,7 @@ pub enum Refusal {
 }
 
 impl Refusal {
+    // No `From`: the name says which number it is.
     pub fn number(self) -> u32
         ensures { result ≡ refusal_number self }
     {

@@ -17,10 +17,11 @@ use figures::Ring;
 #[derive(Drop)]
 pub struct Roster<'a, F: Ring> {
     pub(crate) cells: &'a mut [Cell<F::Plain>],
-    // Whatever was done, the cells hold a ledger.
+    // Whatever was done, the cells hold a ledger. (No `impl Model` shows it: a caller would learn nothing of the lent cells.)
     ghost held: { ∥ HoldSome F.Ring.ops F.Ring.plain cells.now ∥₁ },
 }
 
+// Each call that alters the cells says that they stay the lent ones: a fact of two states, which no type can carry.
 impl<'a, F: Ring> Roster<'a, F> {
     /// A roster without lives. It makes no use of what the cells held, nor of how many the slip is for.
     pub fn open(_slip: &Slip, cells: &'a mut [Cell<F::Plain>], whole: F) -> Roster<'a, F>
