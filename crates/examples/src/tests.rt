@@ -220,6 +220,7 @@ where
     F::Plain: Sample,
 {
     let mut group = Roster::open(slip, cells, whole);
+    // Arrays, not maps: sizes and sorts are small numbers.
     let mut sizes = [0; 65];
     let mut sorts = [0; 80];
     let row = live(rt, &mut group, &mut sizes, &mut sorts);

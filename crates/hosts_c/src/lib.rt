@@ -1,4 +1,5 @@
 //! The calls of crates/hosts as C functions: a slice is a pointer and then a length. Each states the clauses of the call that it makes.
+// Twins of those calls, since a static library exports only what it defines itself.
 #![tactic(auto)]
 
 ghost use Rattle.std.specs.Prelude.{◌≡◌, length, replicate};

@@ -56,6 +56,7 @@ fn answered<F: Packable>(roster: &Roster<'_, F>, question: u32, k: u32) -> Optio
 }
 
 /// Asks a roster a question, 1 exactly, 2 at least or 3 lives, and writes the record into the first 16 bytes.
+// Two numbers, as they come over the line: a wrong question has a refusal of its own, and so has a large k.
 pub fn reply<F: Packable>(
     roster: &Roster<'_, F>,
     question: u32,

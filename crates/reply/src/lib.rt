@@ -221,6 +221,7 @@ pub fn pack_then_unpack<F: Packable>(reply: Record<F>) -> Result<Fields, Refusal
 }
 
 /// The record with these fields, over the figure that is packed as theirs.
+// No `TryFrom`: that the fields were accepted is required.
 fn typed<F: Copy>(f: Fields, figure: F) -> Record<F>
     requires { acceptable f ≡ true }
     ensures { (kind : ℕ) (bits : F → ℕ) → kind ≡ f.kind → bits figure ≡ f.figure → fields_of kind bits result ≡ f }

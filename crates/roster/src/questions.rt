@@ -67,6 +67,7 @@ fn tail<F: Ring>(cells: &[Cell<F::Plain>], j: usize, k: usize) -> F
 }
 
 /// Questions alter no cell.
+// Two methods, since each promises the answer to another of the ledger's calls.
 impl<F: Ring> Roster<'_, F> {
     /// Exactly k alive.
     pub fn exactly(&self, k: u32) -> Result<F, Refusal>

@@ -30,6 +30,7 @@ pub fn number(word: &[u8], limit: u64) -> Option<u64>
     Some(n)
 }
 
+// The next two are a line each: one over both types would have to say what its conversion gives.
 /// A 32-bit number.
 pub fn short_number(word: &[u8]) -> Option<u32>
     ensures { result ≡ number_within 4294967295 word.now }

@@ -19,6 +19,7 @@ pub fn run(console: &mut Console) -> anyhow::Result<()> {
     let heap = console.printer.heap;
     while let Some(words) = console.lines.next_command()? {
         let words = words.as_slice();
+        // A kind is a type, which no value can name, so each has its arm.
         match words {
             [b"open", b"word", cells, whole] => session::<Word>(console, words, cells, whole)?,
             [b"open", b"check", cells, whole] => session::<Residue>(console, words, cells, whole)?,
@@ -49,6 +50,7 @@ fn session<F: Packable>(
 ) -> anyhow::Result<()>
 where
     F::Plain: Typed,
+    // A fact of two states, which no type can carry.
     ensures { left console.new.lines ≤ left console.old.lines }
 {
     let (Some(count), Some(whole)) = (size(cells), F::Plain::read(whole)) else {

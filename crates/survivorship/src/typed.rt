@@ -20,6 +20,7 @@ pub trait Typed: Copy {
         ensures { IfOk result (λ s. string_bytes s ≡ text self.now) };
 }
 
+// An impl for each type: the gate refuses those that a macro of the repository writes.
 /// A word, or scenarios.
 impl Typed for u64 {
     ghost reads = { number_within 18446744073709551615 };
