@@ -1,52 +1,23 @@
--- Reading and writing hex digits two by two. Assumes nothing.
-use Rattle.std.proofs.Common.{◌≡◌, ℕ, suc, ◌+◌, ◌*◌, ◌/◌, ◌%◌, ◌<◌, ◌≤◌, List, [], ◌∷◌, ◌++◌, length, get_or, drop, Some, None, Option, sym, refl, ap, ◌∙◌, append_assoc, append-nil, arith, drop-cons}
-use Rattle.std.proofs.lemmas.List.{drop_all}
+-- Reading and printing hex digits two by two. Assumes nothing.
+use Rattle.std.proofs.Common.{◌≡◌, ℕ, suc, ◌+◌, ◌*◌, ◌/◌, ◌%◌, ◌<◌, ◌≤◌, List, [], ◌∷◌, ◌++◌, length, get_or, take, drop, Some, None, Option, sym, refl, ap, ◌∙◌, append_assoc, append-nil, arith}
+use Rattle.std.proofs.lemmas.List.{drop_all, drop_more, take_more}
+use Rattle.std.specs.Simd.{first_chunks}
 use Rattle.survivorship.specs.Text.{hex_digit, joined, hex_bytes, hex_char, hex_text}
 
--- bytes already read, and what comes of the rest
-abbrev pub onto : List ℕ → Option (List ℕ) → Option (List ℕ)
-onto xs None = None
-onto xs (Some ys) = Some (xs ++ ys)
+-- the bytes that pairs of digits write
+abbrev pub pair_read : List ℕ → Option (List ℕ) → Option (List ℕ)
+pair_read p rest = joined (hex_digit (get_or p 0 0)) (hex_digit (get_or p 1 0)) rest
 
-onto_joined : (xs : List ℕ) (high low : ℕ) (rest : Option (List ℕ)) → onto xs (joined (Some high) (Some low) rest) ≡ onto (xs ++ ((high * 16 + low) ∷ [])) rest
-onto_joined xs high low None = refl
-onto_joined xs high low (Some ys) = ap Some (sym (append_assoc xs ((high * 16 + low) ∷ []) ys))
+abbrev pub pairs_read : List (List ℕ) → Option (List ℕ)
+pairs_read [] = Some []
+pairs_read (p ∷ ps) = pair_read p (pairs_read ps)
 
-two_more : (word : List ℕ) (i : ℕ) → 2 * i + 1 < length word
-    → drop (2 * i) word ≡ get_or word (2 * i) 0 ∷ (get_or word (2 * i + 1) 0 ∷ drop (2 * (i + 1)) word)
-two_more word i h =
-    let first = drop-cons word (2 * i) 0 (omega arith) in
-    let second = drop-cons word (2 * i + 1) 0 h in
-    let one : suc (2 * i) ≡ 2 * i + 1 = omega arith in
-    let two : suc (2 * i + 1) ≡ 2 * (i + 1) = omega arith in
-    first ∙ ap (λ xs. get_or word (2 * i) 0 ∷ xs) (ap (λ k. drop k word) one ∙ second ∙ ap (λ k. get_or word (2 * i + 1) 0 ∷ drop k word) two)
-
-module _ (word : List ℕ) (i : ℕ) (h : 2 * i + 1 < length word) (xs : List ℕ) (inv : onto xs (hex_bytes (drop (2 * i) word)) ≡ hex_bytes word) where
-  read : onto xs (joined (hex_digit (get_or word (2 * i) 0)) (hex_digit (get_or word (2 * i + 1) 0)) (hex_bytes (drop (2 * (i + 1)) word))) ≡ hex_bytes word
-  read = ap (λ w. onto xs (hex_bytes w)) (sym (two_more word i h)) ∙ inv
-
-  pub hex_more : (high low : ℕ) → hex_digit (get_or word (2 * i) 0) ≡ Some high → hex_digit (get_or word (2 * i + 1) 0) ≡ Some low
-      → onto (xs ++ ((high * 16 + low) ∷ [])) (hex_bytes (drop (2 * (i + 1)) word)) ≡ hex_bytes word
-  hex_more high low a b =
-      sym (onto_joined xs high low _)
-      ∙ ap (λ x. onto xs (joined x (Some low) (hex_bytes (drop (2 * (i + 1)) word)))) (sym a)
-      ∙ ap (λ y. onto xs (joined (hex_digit (get_or word (2 * i) 0)) y (hex_bytes (drop (2 * (i + 1)) word)))) (sym b)
-      ∙ read
-
-  pub hex_high : hex_digit (get_or word (2 * i) 0) ≡ None → hex_bytes word ≡ None
-  hex_high a = sym read ∙ ap (λ x. onto xs (joined x (hex_digit (get_or word (2 * i + 1) 0)) (hex_bytes (drop (2 * (i + 1)) word)))) a
-
-  pub hex_low : hex_digit (get_or word (2 * i + 1) 0) ≡ None → hex_bytes word ≡ None
-  hex_low b =
-      sym read ∙ ap (λ y. onto xs (joined (hex_digit (get_or word (2 * i) 0)) y (hex_bytes (drop (2 * (i + 1)) word)))) b
-      ∙ none (hex_digit (get_or word (2 * i) 0))
-    where
-      none : (x : Option ℕ) → onto xs (joined x None (hex_bytes (drop (2 * (i + 1)) word))) ≡ None
-      none None = refl
-      none (Some high) = refl
-
-pub hex_all : (word : List ℕ) (i : ℕ) (xs : List ℕ) → length word ≤ 2 * i → onto xs (hex_bytes (drop (2 * i) word)) ≡ hex_bytes word → hex_bytes word ≡ Some xs
-hex_all word i xs h inv = sym inv ∙ ap (λ w. onto xs (hex_bytes w)) (drop_all (2 * i) word h) ∙ ap Some (append-nil xs)
+hex_pairs : (word : List ℕ) → length word % 2 ≡ 0 → pairs_read (first_chunks 2 (length word / 2) word) ≡ hex_bytes word
+hex_pairs [] h = refl
+hex_pairs (a ∷ []) h = absurd (omega arith)
+hex_pairs (a ∷ b ∷ rest) h =
+    let half : length (a ∷ b ∷ rest) / 2 ≡ suc (length rest / 2) = omega arith in
+    ap (λ k. pairs_read (first_chunks 2 k (a ∷ b ∷ rest))) half ∙ ap (joined (hex_digit a) (hex_digit b)) (hex_pairs rest (omega arith))
 
 pub hex_odd : (word : List ℕ) → length word % 2 ≡ 1 → hex_bytes word ≡ None
 hex_odd [] h = absurd (omega arith)
@@ -58,17 +29,58 @@ hex_odd (a ∷ b ∷ rest) h = ap (joined (hex_digit a) (hex_digit b)) (hex_odd 
     none (Some x) None = refl
     none (Some x) (Some y) = refl
 
--- one byte more is written, and all of them
-pub text_more : (bytes : List ℕ) (i : ℕ) (written : List ℕ) → i < length bytes
-    → ((written ++ (hex_char (get_or bytes i 0 / 16) ∷ [])) ++ (hex_char (get_or bytes i 0 % 16) ∷ [])) ++ hex_text (drop (i + 1) bytes) ≡ written ++ hex_text (drop i bytes)
-text_more bytes i written h =
-    let high : ℕ = hex_char (get_or bytes i 0 / 16) in
-    let low : ℕ = hex_char (get_or bytes i 0 % 16) in
-    let next : suc i ≡ i + 1 = omega arith in
-    append_assoc (written ++ (high ∷ [])) (low ∷ []) (hex_text (drop (i + 1) bytes))
-    ∙ append_assoc written (high ∷ []) (low ∷ hex_text (drop (i + 1) bytes))
-    ∙ ap (λ k. written ++ (high ∷ (low ∷ hex_text (drop k bytes)))) (sym next)
-    ∙ ap (λ xs. written ++ hex_text xs) (sym (drop-cons bytes i 0 h))
+-- bytes already read, and what comes of the rest
+abbrev pub onto : List ℕ → Option (List ℕ) → Option (List ℕ)
+onto xs None = None
+onto xs (Some ys) = Some (xs ++ ys)
 
-pub text_all : (bytes : List ℕ) (i : ℕ) (written : List ℕ) → length bytes ≤ i → written ++ hex_text (drop i bytes) ≡ hex_text bytes → written ≡ hex_text bytes
-text_all bytes i written h inv = sym (append-nil written) ∙ ap (λ xs. written ++ hex_text xs) (sym (drop_all i bytes h)) ∙ inv
+onto_nothing : (o : Option (List ℕ)) → onto [] o ≡ o
+onto_nothing None = refl
+onto_nothing (Some ys) = refl
+
+onto_joined : (xs : List ℕ) (high low : ℕ) (rest : Option (List ℕ)) → onto xs (joined (Some high) (Some low) rest) ≡ onto (xs ++ ((high * 16 + low) ∷ [])) rest
+onto_joined xs high low None = refl
+onto_joined xs high low (Some ys) = ap Some (sym (append_assoc xs ((high * 16 + low) ∷ []) ys))
+
+pub pairs_first : (word : List ℕ) → length word % 2 ≡ 0 → onto [] (pairs_read (drop 0 (first_chunks 2 (length word / 2) word))) ≡ hex_bytes word
+pairs_first word h = onto_nothing _ ∙ hex_pairs word h
+
+-- one pair more: d is what an index past the end reads
+module _ (pairs : List (List ℕ)) (i : ℕ) (d : List ℕ) (h : i < length pairs) (xs : List ℕ) (bytes : Option (List ℕ)) (inv : onto xs (pairs_read (drop i pairs)) ≡ bytes) where
+  read : (a b : Option ℕ) → a ≡ hex_digit (get_or (get_or pairs i d) 0 0) → b ≡ hex_digit (get_or (get_or pairs i d) 1 0)
+      → onto xs (joined a b (pairs_read (drop (i + 1) pairs))) ≡ bytes
+  read a b e f =
+      ap (λ x. onto xs (joined x b (pairs_read (drop (i + 1) pairs)))) e
+      ∙ ap (λ y. onto xs (joined (hex_digit (get_or (get_or pairs i d) 0 0)) y (pairs_read (drop (i + 1) pairs)))) f
+      ∙ ap (λ ps. onto xs (pairs_read ps)) (sym (drop_more pairs i d h)) ∙ inv
+
+  pub pair_more : (a b : ℕ) → Some a ≡ hex_digit (get_or (get_or pairs i d) 0 0) → Some b ≡ hex_digit (get_or (get_or pairs i d) 1 0)
+      → onto (xs ++ ((a * 16 + b) ∷ [])) (pairs_read (drop (i + 1) pairs)) ≡ bytes
+  pair_more a b e f = sym (onto_joined xs a b (pairs_read (drop (i + 1) pairs))) ∙ read (Some a) (Some b) e f
+
+  pub pair_high : None ≡ hex_digit (get_or (get_or pairs i d) 0 0) → bytes ≡ None
+  pair_high e = sym (read None _ e refl)
+
+  pub pair_low : None ≡ hex_digit (get_or (get_or pairs i d) 1 0) → bytes ≡ None
+  pair_low f = sym (read _ None refl f) ∙ none (hex_digit (get_or (get_or pairs i d) 0 0))
+    where
+      none : (a : Option ℕ) → onto xs (joined a None (pairs_read (drop (i + 1) pairs))) ≡ None
+      none None = refl
+      none (Some a) = refl
+
+pub pairs_all : (pairs : List (List ℕ)) (i : ℕ) (xs : List ℕ) (bytes : Option (List ℕ)) → length pairs ≤ i → onto xs (pairs_read (drop i pairs)) ≡ bytes → bytes ≡ Some xs
+pairs_all pairs i xs bytes h inv = sym inv ∙ ap (λ ps. onto xs (pairs_read ps)) (drop_all i pairs h) ∙ ap Some (append-nil xs)
+
+-- one byte more as it is printed, by its two digits
+pub text_more : (bytes : List ℕ) (i high low : ℕ) (written : List ℕ) → i < length bytes → high ≡ hex_char (get_or bytes i 0 / 16) → low ≡ hex_char (get_or bytes i 0 % 16)
+    → written ≡ hex_text (take i bytes) → (written ++ (high ∷ [])) ++ (low ∷ []) ≡ hex_text (take (i + 1) bytes)
+text_more bytes i high low written h e f w =
+    append_assoc written (high ∷ []) (low ∷ [])
+    ∙ ap (λ t. t ++ (high ∷ low ∷ [])) w
+    ∙ ap (λ d. hex_text (take i bytes) ++ (d ∷ low ∷ [])) e
+    ∙ ap (λ d. hex_text (take i bytes) ++ (hex_char (get_or bytes i 0 / 16) ∷ d ∷ [])) f
+    ∙ sym (ap hex_text (take_more bytes i 0 h) ∙ both (take i bytes) (get_or bytes i 0 ∷ []))
+  where
+    both : (xs ys : List ℕ) → hex_text (xs ++ ys) ≡ hex_text xs ++ hex_text ys
+    both [] ys = refl
+    both (x ∷ xs) ys = ap (λ t. hex_char (x / 16) ∷ hex_char (x % 16) ∷ t) (both xs ys)

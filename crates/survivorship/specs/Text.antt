@@ -1,5 +1,5 @@
 -- What the program reads and prints, as functions on bytes. Assumes nothing.
-use Rattle.std.specs.Prelude.{ℕ, ◌+◌, ◌-◌, ◌*◌, ◌/◌, ◌%◌, Bool, true, cond, ◌&&◌, ◌||◌, List, [], ◌∷◌, ◌++◌, map, take, drop, Some, None, codes, decimal, Option, ◌==◌, nat_le}
+use Rattle.std.specs.Prelude.{ℕ, ◌+◌, ◌-◌, ◌*◌, ◌/◌, ◌%◌, Bool, true, cond, ◌&&◌, ◌||◌, List, [], ◌∷◌, ◌++◌, map, take, drop, Some, None, codes, decimal, Option, ◌==◌, nat_le, position}
 use Rattle.std.specs.Int.Digits.{number_from_digits}
 use Rattle.reply.specs.declared.Fields.{Fields}
 use Rattle.figures.specs.declared.kinds.Dual.{Dual}
@@ -63,13 +63,8 @@ number_within limit [] = None
 number_within limit (c ∷ cs) = cond (digits (c ∷ cs) && nat_le (value_of (c ∷ cs)) limit) (Some (value_of (c ∷ cs))) None
 
 -- Where the first colon stands.
-abbrev pub further : Option ℕ → Option ℕ
-further None = None
-further (Some i) = Some (i + 1)
-
 abbrev pub colon_at : List ℕ → Option ℕ
-colon_at [] = None
-colon_at (c ∷ cs) = cond (c == 58) (Some 0) (further (colon_at cs))
+colon_at word = position (λ c. c == 58) word
 
 -- A slope is two figures with a colon between.
 abbrev pub both : {P : Type 0} → Option P → Option P → Option (Dual P)
@@ -93,6 +88,10 @@ refused_text number = codes "refused " ++ decimal number
 
 abbrev pub refused_at_text : ℕ → ℕ → List ℕ
 refused_at_text number place = codes "refused " ++ (decimal number ++ (codes " at " ++ decimal place))
+
+abbrev pub refusal_text : ℕ → Option ℕ → List ℕ
+refusal_text number None = refused_text number
+refusal_text number (Some place) = refused_at_text number place
 
 -- Texts with a blank between: the first, and each other with a blank before it.
 abbrev pub others : List (List ℕ) → List ℕ

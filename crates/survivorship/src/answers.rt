@@ -1,45 +1,14 @@
-//! The texts that answer commands.
+//! The texts of what is granted.
 ghost use Rattle.std.specs.Prelude.{◌≡◌, map, replicate, IfOk, string_bytes, codes};
-ghost use Rattle.survivorship.specs.Text.{refused_text, refused_at_text, spaced};
+ghost use Rattle.survivorship.specs.Text.{spaced};
 
 use crate::typed::Typed;
-use std::alloc::{AllocError, AllocFailed, Global};
-
-/// Why a command has no answer.
-#[derive(Drop)]
-pub enum Unanswered {
-    NotUnderstood,
-    NoMemory,
-}
-
-impl From<AllocError> for Unanswered {
-    fn from(_error: AllocError) -> Unanswered {
-        Unanswered::NoMemory
-    }
-}
-
-impl<T: Drop> From<AllocFailed<T>> for Unanswered {
-    fn from(_refused: AllocFailed<T>) -> Unanswered {
-        Unanswered::NoMemory
-    }
-}
+use std::alloc::{AllocError, Global};
 
 pub fn done(heap: Global) -> Result<String, AllocError>
     ensures { IfOk result (λ s. string_bytes s ≡ codes "done") }
 {
     String::from_str(heap, "done")
-}
-
-pub fn refused(heap: Global, number: u32) -> Result<String, AllocError>
-    ensures { IfOk result (λ s. string_bytes s ≡ refused_text number) }
-{
-    format!(in heap; "refused {number}")
-}
-
-pub fn refused_at(heap: Global, number: u32, place: usize) -> Result<String, AllocError>
-    ensures { IfOk result (λ s. string_bytes s ≡ refused_at_text number place) }
-{
-    format!(in heap; "refused {number} at {place}")
 }
 
 /// The entries with a blank between.
@@ -61,6 +30,7 @@ pub fn table_text<P: Typed>(heap: Global, table: &[P]) -> Result<String, AllocEr
 pub fn filled<P: Copy>(heap: Global, value: P, count: usize) -> Result<Vec<P>, AllocError>
     ensures { IfOk result (λ t. t.items ≡ replicate count value) }
 {
+    // No `vec!`: it clones, and a proof does not know what a `Copy` type's clone is.
     let mut table = Vec::new(heap);
     for _ in 0..count {
         table.push(value)?;

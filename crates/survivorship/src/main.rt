@@ -3,16 +3,16 @@
 
 mod answers;
 mod commands;
+mod console;
 mod numbers;
-mod printer;
 mod sessions;
 mod text;
 mod typed;
+mod unanswered;
 mod words;
 
-use commands::obey;
-use printer::Printer;
-use sessions::open;
+use console::{Console, Printer};
+use sessions::run;
 use std::io::Read;
 use std::process::ExitCode;
 use std::{env, fs};
@@ -40,28 +40,17 @@ fn input(rt: &HostRuntime) -> anyhow::Result<Option<Vec<u8>>> {
     }
 }
 
-/// Obeys every line.
-fn run(lines: &mut Lines, printer: &mut Printer) -> anyhow::Result<()> {
-    while let Some(words) = lines.next_command()? {
-        if let [b"open", ..] = words.as_slice() {
-            open(lines, printer, &words)?;
-        } else {
-            let answer = obey(printer.heap, &words);
-            printer.print(&words, answer)?;
-        }
-    }
-    Ok(())
-}
-
 /// The status is 1 where a line was not understood, and where the input was refused.
 fn main(rt: HostRuntime) -> anyhow::Result<ExitCode> {
     let Some(input) = input(&rt)? else {
         return Ok(ExitCode::FAILURE);
     };
-    let mut lines = Lines::new(rt.alloc(), &input);
-    let mut printer = Printer::new(rt.alloc(), rt.stdout())?;
-    run(&mut lines, &mut printer)?;
-    if printer.finish()? {
+    let mut console = Console {
+        lines: Lines::new(rt.alloc(), &input),
+        printer: Printer::new(rt.alloc(), rt.stdout())?,
+    };
+    run(&mut console)?;
+    if console.printer.finish()? {
         return Ok(ExitCode::SUCCESS);
     }
     Ok(ExitCode::FAILURE)

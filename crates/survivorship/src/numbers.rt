@@ -1,18 +1,12 @@
 //! Decimal numbers as they are typed.
 ghost use Rattle.std.specs.Prelude.{◌≡◌, ℕ, ◌≤◌, IfSome};
-ghost use Rattle.survivorship.specs.Text.{digit, number_within};
+ghost use Rattle.survivorship.specs.Text.{number_within};
 
-use crate::answers::Unanswered;
+use crate::unanswered::Unanswered;
 use std::alloc::Global;
 
 /// The most cells that a roster is opened with, and the most entries of a table.
 const MOST: u64 = 1000;
-
-fn is_digit(b: u8) -> bool
-    ensures { result ≡ digit b }
-{
-    b >= b'0' && b <= b'9'
-}
 
 /// The number that a word of digits writes; none where it is empty, a byte is no digit, or the number is above the limit.
 pub fn number(word: &[u8], limit: u64) -> Option<u64>
@@ -24,7 +18,7 @@ pub fn number(word: &[u8], limit: u64) -> Option<u64>
     }
     let mut n = 0u64;
     for b in word {
-        if !is_digit(*b) {
+        if !b.is_ascii_digit() {
             return None;
         }
         let next = n as u128 * 10 + (*b - b'0') as u128;
@@ -40,30 +34,20 @@ pub fn number(word: &[u8], limit: u64) -> Option<u64>
 pub fn short_number(word: &[u8]) -> Option<u32>
     ensures { result ≡ number_within 4294967295 word.now }
 {
-    match number(word, u32::MAX as u64) {
-        Some(n) => Some(n as u32),
-        None => None,
-    }
+    number(word, u32::MAX as u64).map(|n| n as u32)
 }
 
 /// A number of cells or of entries.
 pub fn size(word: &[u8]) -> Option<usize>
     ensures { result ≡ number_within 1000 word.now }
 {
-    match number(word, MOST) {
-        Some(n) => Some(n as usize),
-        None => None,
-    }
+    number(word, MOST).map(|n| n as usize)
 }
 
 /// A list of 32-bit numbers.
 pub fn short_numbers(heap: Global, words: &[&[u8]]) -> Result<Vec<u32>, Unanswered> {
-    let mut all = Vec::new(heap);
-    for word in words {
-        let Some(n) = short_number(word) else {
-            return Err(Unanswered::NotUnderstood);
-        };
-        all.push(n)?;
-    }
-    Ok(all)
+    words
+        .iter()
+        .map(|word| short_number(word).ok_or(Unanswered::NotUnderstood))
+        .try_collect(heap)
 }

@@ -2,241 +2,57 @@
 ghost use Rattle.std.specs.Prelude.{◌≤◌};
 ghost use Rattle.survivorship.specs.Reading.{left};
 
-use crate::answers::{Unanswered, done, filled, refused, table_text};
+use crate::answers::{done, filled, table_text};
 use crate::commands::obey;
+use crate::console::Console;
 use crate::numbers::{short_number, size};
-use crate::printer::Printer;
 use crate::text::hex_text;
 use crate::typed::Typed;
-use crate::words::Lines;
+use crate::unanswered::Unanswered::{self, NotUnderstood};
 use figures::{Dual, Packable, Residue, Ring, Scenarios, Word};
 use reply::asked;
-use roster::{Cell, Refusal, Roster, Slip, close, take_into_use};
-use std::alloc::{AllocError, Global};
+use roster::{Cell, Roster, close, take_into_use};
+use std::alloc::Global;
 
-/// What is asked of a roster over figures of the plain form P.
-#[derive(Clone, Copy)]
-enum Request<P> {
-    Join { number: u32, figure: P },
-    Leave { number: u32 },
-    Change { number: u32, figure: P },
-    Clear,
-    Exactly { k: u32 },
-    AtLeast { k: u32 },
-    Lives,
-    Find { number: u32 },
-    Composed { entries: usize },
-    Triangle { entries: usize },
-    Reply { question: u32, k: u32, bytes: usize },
-}
-
-fn read_request<P: Typed>(words: &[&[u8]]) -> Option<Request<P>> {
-    let request = match words {
-        [b"join", number, figure] => Request::Join {
-            number: short_number(number)?,
-            figure: P::read(figure)?,
-        },
-        [b"leave", number] => Request::Leave {
-            number: short_number(number)?,
-        },
-        [b"change", number, figure] => Request::Change {
-            number: short_number(number)?,
-            figure: P::read(figure)?,
-        },
-        [b"clear"] => Request::Clear,
-        [b"exactly", k] => Request::Exactly {
-            k: short_number(k)?,
-        },
-        [b"at-least", k] => Request::AtLeast {
-            k: short_number(k)?,
-        },
-        [b"lives"] => Request::Lives,
-        [b"find", number] => Request::Find {
-            number: short_number(number)?,
-        },
-        [b"composed", entries] => Request::Composed {
-            entries: size(entries)?,
-        },
-        [b"triangle", entries] => Request::Triangle {
-            entries: size(entries)?,
-        },
-        [b"reply", question, k, bytes] => Request::Reply {
-            question: short_number(question)?,
-            k: short_number(k)?,
-            bytes: size(bytes)?,
-        },
-        _ => return None,
-    };
-    Some(request)
-}
-
-fn granted(heap: Global, res: Result<(), Refusal>) -> Result<String, AllocError> {
-    match res {
-        Ok(()) => done(heap),
-        Err(refusal) => refused(heap, refusal.number()),
-    }
-}
-
-fn figure_text<F: Packable>(heap: Global, res: Result<F, Refusal>) -> Result<String, AllocError>
-where
-    F::Plain: Typed,
-{
-    match res {
-        Ok(figure) => figure.to_plain().show(heap),
-        Err(refusal) => refused(heap, refusal.number()),
-    }
-}
-
-fn row_text<P: Typed>(
-    heap: Global,
-    res: Result<(), Refusal>,
-    table: &[P],
-) -> Result<String, AllocError> {
-    match res {
-        Ok(()) => table_text(heap, table),
-        Err(refusal) => refused(heap, refusal.number()),
-    }
-}
-
-fn answer<F: Packable>(
-    heap: Global,
-    roster: &mut Roster<F>,
-    request: Request<F::Plain>,
-) -> Result<String, AllocError>
-where
-    F::Plain: Typed,
-{
-    match request {
-        Request::Join { number, figure } => {
-            granted(heap, roster.join(number, F::from_plain(figure)))
+/// Obeys every line.
+pub fn run(console: &mut Console) -> anyhow::Result<()> {
+    let heap = console.printer.heap;
+    while let Some(words) = console.lines.next_command()? {
+        let words = words.as_slice();
+        match words {
+            [b"open", b"word", cells, whole] => session::<Word>(console, words, cells, whole)?,
+            [b"open", b"check", cells, whole] => session::<Residue>(console, words, cells, whole)?,
+            [b"open", b"scenario", cells, whole] => session::<Scenarios>(
+                console, words, cells, whole,
+            )?,
+            [b"open", b"slope-word", cells, whole] => session::<Dual<Word>>(
+                console, words, cells, whole,
+            )?,
+            [b"open", b"slope-check", cells, whole] => session::<Dual<Residue>>(
+                console, words, cells, whole,
+            )?,
+            [b"open", b"slope-scenario", cells, whole] => session::<Dual<Scenarios>>(
+                console, words, cells, whole,
+            )?,
+            _ => console.printer.print(words, obey(heap, words))?,
         }
-        Request::Leave { number } => granted(heap, roster.leave(number)),
-        Request::Change { number, figure } => {
-            granted(heap, roster.change(number, F::from_plain(figure)))
-        }
-        Request::Clear => {
-            roster.clear();
-            done(heap)
-        }
-        Request::Exactly { k } => figure_text(heap, roster.exactly(k)),
-        Request::AtLeast { k } => figure_text(heap, roster.at_least(k)),
-        Request::Lives => {
-            let lives = roster.lives();
-            format!(in heap; "{lives}")
-        }
-        Request::Find { number } => match roster.find(number) {
-            Some(place) => format!(in heap; "{place}"),
-            None => String::from_str(heap, "none"),
-        },
-        Request::Composed { entries } => {
-            let mut table = filled(heap, F::zero().to_plain(), entries)?;
-            let result = roster.composed_row(&mut table);
-            row_text(heap, result, &table)
-        }
-        Request::Triangle { entries } => {
-            let mut table = filled(heap, F::zero().to_plain(), entries)?;
-            let result = roster.triangle_row(&mut table);
-            row_text(heap, result, &table)
-        }
-        Request::Reply { question, k, bytes } => {
-            let mut out = filled(heap, 0u8, bytes)?;
-            match asked::reply(roster, question, k, &mut out) {
-                Ok(()) => hex_text(heap, &out),
-                Err(refusal) => refused(heap, refusal.number()),
-            }
-        }
-    }
-}
-
-/// A line between `open` and `close`.
-fn reply<F: Packable>(
-    heap: Global,
-    roster: &mut Roster<F>,
-    words: &[&[u8]],
-) -> Result<String, Unanswered>
-where
-    F::Plain: Typed,
-{
-    match read_request(words) {
-        Some(request) => Ok(answer(heap, roster, request)?),
-        None => obey(heap, words),
-    }
-}
-
-/// Obeys the lines up to `close`, or to the end of the input.
-fn converse<F: Packable>(
-    lines: &mut Lines,
-    printer: &mut Printer,
-    roster: &mut Roster<F>,
-) -> anyhow::Result<()>
-where
-    F::Plain: Typed,
-    ensures { left lines.new ≤ left lines.old }
-{
-    while let Some(words) = lines.next_command()? {
-        if let [b"close"] = words.as_slice() {
-            break;
-        }
-        let answer = reply(printer.heap, roster, &words);
-        printer.print(&words, answer)?;
     }
     Ok(())
 }
 
-/// From the answer to `open` to the line that closes.
-fn hold<F: Packable>(
-    lines: &mut Lines,
-    printer: &mut Printer,
-    opening: &[&[u8]],
-    slip: &Slip,
-    cells: &mut [Cell<F::Plain>],
-    whole: F,
-) -> anyhow::Result<()>
-where
-    F::Plain: Typed,
-    ensures { left lines.new ≤ left lines.old }
-{
-    let mut roster = Roster::open(slip, cells, whole);
-    printer.print_done(opening)?;
-    converse(lines, printer, &mut roster)
-}
-
-/// Takes the cells into use and closes them, whatever goes wrong in between.
-fn use_cells<F: Packable>(
-    lines: &mut Lines,
-    printer: &mut Printer,
-    opening: &[&[u8]],
-    cells: &mut [Cell<F::Plain>],
-    whole: F,
-) -> anyhow::Result<()>
-where
-    F::Plain: Typed,
-    ensures { left lines.new ≤ left lines.old }
-{
-    let slip = take_into_use(cells);
-    let held = hold(lines, printer, opening, &slip, cells, whole);
-    // They are as many as were taken into use, so closing is not refused.
-    match close::<F>(cells, slip) {
-        Ok(()) => {}
-        Err(_) => unreachable(),
-    }
-    held?;
-    printer.print_done(&[b"close"])
-}
-
+/// open KIND CELLS WHOLE, up to the line that closes: whatever goes wrong in between, the cells are closed.
 fn session<F: Packable>(
-    lines: &mut Lines,
-    printer: &mut Printer,
+    console: &mut Console,
     opening: &[&[u8]],
     cells: &[u8],
     whole: &[u8],
 ) -> anyhow::Result<()>
 where
     F::Plain: Typed,
-    ensures { left lines.new ≤ left lines.old }
+    ensures { left console.new.lines ≤ left console.old.lines }
 {
     let (Some(count), Some(whole)) = (size(cells), F::Plain::read(whole)) else {
-        return printer.print(opening, Err(Unanswered::NotUnderstood));
+        return console.printer.print(opening, Err(NotUnderstood));
     };
     let zero = F::zero().to_plain();
     let blank = Cell {
@@ -244,24 +60,121 @@ where
         sum: zero,
         number: 0,
     };
-    let mut cells = filled(printer.heap, blank, count)?;
-    use_cells(lines, printer, opening, &mut cells, F::from_plain(whole))
+    let mut cells = filled(console.printer.heap, blank, count)?;
+    let slip = take_into_use(&cells);
+    let mut roster = Roster::open(&slip, &mut cells, F::from_plain(whole));
+    let held = converse(console, opening, &mut roster);
+    // They are as many as were taken into use, so closing is not refused.
+    match close::<F>(&mut cells, slip) {
+        Ok(()) => {}
+        Err(_) => unreachable(),
+    }
+    held?;
+    console.printer.print_done(&[b"close"])
 }
 
-/// open KIND CELLS WHOLE
-pub fn open(lines: &mut Lines, printer: &mut Printer, words: &[&[u8]]) -> anyhow::Result<()>
-    ensures { left lines.new ≤ left lines.old }
+/// Answers `open`, and obeys the lines up to `close`, or to the end of the input.
+fn converse<F: Packable>(
+    console: &mut Console,
+    opening: &[&[u8]],
+    roster: &mut Roster<F>,
+) -> anyhow::Result<()>
+where
+    F::Plain: Typed,
+    ensures { left console.new.lines ≤ left console.old.lines }
 {
-    let [_, kind, cells, whole] = words else {
-        return printer.print(words, Err(Unanswered::NotUnderstood));
-    };
-    match *kind {
-        b"word" => session::<Word>(lines, printer, words, cells, whole),
-        b"check" => session::<Residue>(lines, printer, words, cells, whole),
-        b"scenario" => session::<Scenarios>(lines, printer, words, cells, whole),
-        b"slope-word" => session::<Dual<Word>>(lines, printer, words, cells, whole),
-        b"slope-check" => session::<Dual<Residue>>(lines, printer, words, cells, whole),
-        b"slope-scenario" => session::<Dual<Scenarios>>(lines, printer, words, cells, whole),
-        _ => printer.print(words, Err(Unanswered::NotUnderstood)),
+    console.printer.print_done(opening)?;
+    while let Some(words) = console.lines.next_command()? {
+        if let [b"close"] = words.as_slice() {
+            break;
+        }
+        let answer = ask(console.printer.heap, roster, &words);
+        console.printer.print(&words, answer)?;
     }
+    Ok(())
+}
+
+/// A line between `open` and `close`.
+fn ask<F: Packable>(
+    heap: Global,
+    roster: &mut Roster<F>,
+    words: &[&[u8]],
+) -> Result<String, Unanswered>
+where
+    F::Plain: Typed,
+{
+    let text = match words {
+        [b"join", number, figure] => {
+            let number = short_number(number).ok_or(NotUnderstood)?;
+            roster.join(number, read(figure)?)?;
+            done(heap)
+        }
+        [b"leave", number] => {
+            let number = short_number(number).ok_or(NotUnderstood)?;
+            roster.leave(number)?;
+            done(heap)
+        }
+        [b"change", number, figure] => {
+            let number = short_number(number).ok_or(NotUnderstood)?;
+            roster.change(number, read(figure)?)?;
+            done(heap)
+        }
+        [b"clear"] => {
+            roster.clear();
+            done(heap)
+        }
+        [b"exactly", k] => {
+            let k = short_number(k).ok_or(NotUnderstood)?;
+            roster.exactly(k)?.to_plain().show(heap)
+        }
+        [b"at-least", k] => {
+            let k = short_number(k).ok_or(NotUnderstood)?;
+            roster.at_least(k)?.to_plain().show(heap)
+        }
+        [b"lives"] => roster.lives().to_string(heap),
+        [b"find", number] => {
+            let number = short_number(number).ok_or(NotUnderstood)?;
+            match roster.find(number) {
+                Some(place) => place.to_string(heap),
+                None => String::from_str(heap, "none"),
+            }
+        }
+        [b"composed", entries] => {
+            let mut table = zeros::<F>(heap, entries)?;
+            roster.composed_row(&mut table)?;
+            table_text(heap, &table)
+        }
+        [b"triangle", entries] => {
+            let mut table = zeros::<F>(heap, entries)?;
+            roster.triangle_row(&mut table)?;
+            table_text(heap, &table)
+        }
+        [b"reply", question, k, bytes] => {
+            let question = short_number(question).ok_or(NotUnderstood)?;
+            let k = short_number(k).ok_or(NotUnderstood)?;
+            let mut out = filled(heap, 0u8, size(bytes).ok_or(NotUnderstood)?)?;
+            asked::reply(roster, question, k, &mut out)?;
+            hex_text(heap, &out)
+        }
+        _ => return obey(heap, words),
+    };
+    Ok(text?)
+}
+
+/// The figure that a word writes.
+fn read<F: Packable>(word: &[u8]) -> Result<F, Unanswered>
+where
+    F::Plain: Typed,
+{
+    let figure = F::Plain::read(word).ok_or(NotUnderstood)?;
+    Ok(F::from_plain(figure))
+}
+
+/// A table of zeros, of as many entries as a word says.
+fn zeros<F: Packable>(heap: Global, entries: &[u8]) -> Result<Vec<F::Plain>, Unanswered>
+where
+    F::Plain: Typed,
+{
+    let entries = size(entries).ok_or(NotUnderstood)?;
+    Ok(filled(heap, F::zero().to_plain(), entries)?)
 }

@@ -1,5 +1,5 @@
-//! Words, hex and records as text: functions on values.
-ghost use Rattle.std.specs.Prelude.{◌≡◌, ℕ, ◌<◌, ◌≤◌, length, IfSome, IfOk, vec_items, string_bytes};
+//! Bytes, hex and records as text.
+ghost use Rattle.std.specs.Prelude.{◌≡◌, ℕ, ◌<◌, ◌≤◌, IfSome, IfOk, vec_items, string_bytes};
 ghost use Rattle.std.specs.Option.{option_map};
 ghost use Rattle.survivorship.specs.Text.{blank, echoed, hex_digit, hex_bytes, hex_char, hex_text, fields_text};
 
@@ -9,40 +9,32 @@ use std::alloc::{AllocError, Global};
 pub fn is_blank(b: u8) -> bool
     ensures { result ≡ blank b }
 {
-    b == b' ' || b == b'\t' || b == b'\r'
+    matches!(b, b' ' | b'\t' | b'\r')
 }
 
 pub fn echo(b: u8) -> u8
     ensures { result ≡ echoed b }
 {
-    if b >= 33 && b <= 126 { b } else { b'?' }
+    if b.is_ascii_graphic() { b } else { b'?' }
 }
 
 pub fn hex_digit(c: u8) -> Option<u8>
     ensures value { result ≡ hex_digit c }
     ensures small { IfSome result (λ d. d < 16) }
 {
-    match c {
-        b'0'..=b'9' => Some(c - b'0'),
-        b'a'..=b'f' => Some(c - b'a' + 10),
-        b'A'..=b'F' => Some(c - b'A' + 10),
-        _ => None,
-    }
+    (c as char).to_digit(16).map(|digit| digit as u8)
 }
 
 /// The bytes that a word of hex digits writes.
 pub fn hex_bytes(heap: Global, word: &[u8]) -> Result<Option<Vec<u8>>, AllocError>
     ensures { IfOk result (λ o. option_map vec_items o ≡ hex_bytes word.now) }
 {
-    let mut bytes = Vec::new(heap);
-    if word.len() % 2 != 0 {
+    let (pairs, []) = word.as_chunks::<2>() else {
         return Ok(None);
-    }
-    for i in 0..word.len() / 2 {
-        let Some(high) = hex_digit(word[2 * i]) else {
-            return Ok(None);
-        };
-        let Some(low) = hex_digit(word[2 * i + 1]) else {
+    };
+    let mut bytes = Vec::new(heap);
+    for [high, low] in pairs {
+        let (Some(high), Some(low)) = (hex_digit(*high), hex_digit(*low)) else {
             return Ok(None);
         };
         bytes.push(high * 16 + low)?;
@@ -64,6 +56,7 @@ fn hex_char(digit: u8) -> u8
 }
 
 /// Bytes as hex digits, two for each.
+// Pushed, and no `Display`: a formatter takes several times as long for each digit.
 pub fn hex_text(heap: Global, bytes: &[u8]) -> Result<String, AllocError>
     ensures { IfOk result (λ s. string_bytes s ≡ hex_text bytes.now) }
 {
@@ -75,6 +68,7 @@ pub fn hex_text(heap: Global, bytes: &[u8]) -> Result<String, AllocError>
     Ok(text)
 }
 
+// No `Display`: `Fields` is another crate's.
 pub fn fields_text(heap: Global, f: &Fields) -> Result<String, AllocError>
     ensures { IfOk result (λ s. string_bytes s ≡ fields_text f.now) }
 {

@@ -6,6 +6,7 @@ use crate::numbers::{number, short_number};
 use figures::Dual;
 use std::alloc::{AllocError, Global};
 
+// `show`, and no `Display`: a slope's type is another crate's.
 pub trait Typed: Copy {
     // The figure that a word writes, and the text that is printed for one.
     ghost reads: { List ℕ → Option Self };
@@ -30,7 +31,7 @@ impl Typed for u64 {
     }
 
     fn show(&self, heap: Global) -> Result<String, AllocError> {
-        format!(in heap; "{self}")
+        self.to_string(heap)
     }
 }
 
@@ -45,7 +46,7 @@ impl Typed for u32 {
     }
 
     fn show(&self, heap: Global) -> Result<String, AllocError> {
-        format!(in heap; "{self}")
+        self.to_string(heap)
     }
 }
 
@@ -57,16 +58,15 @@ impl<P: Typed> Typed for Dual<P> {
 
     fn read(word: &[u8]) -> Option<Dual<P>> {
         let colon = first_colon(word)?;
-        let value = P::read(&word[0..colon])?;
+        let value = P::read(&word[..colon])?;
         let rate = P::read(&word[colon + 1..])?;
         Some(Dual { value, rate })
     }
 
     fn show(&self, heap: Global) -> Result<String, AllocError> {
-        let mut text = self.value.show(heap)?;
-        text.push_str(":")?;
-        text.push_str(&self.rate.show(heap)?)?;
-        Ok(text)
+        let value = self.value.show(heap)?;
+        let rate = self.rate.show(heap)?;
+        format!(in heap; "{value}:{rate}")
     }
 }
 
@@ -74,10 +74,5 @@ fn first_colon(word: &[u8]) -> Option<usize>
     ensures value { result ≡ colon_at word.now }
     ensures within { IfSome result (λ i. i < length word.now) }
 {
-    for (i, b) in word.iter().enumerate() {
-        if *b == b':' {
-            return Some(i);
-        }
-    }
-    None
+    word.iter().position(|b| *b == b':')
 }

@@ -5,54 +5,11 @@ ghost use Rattle.survivorship.specs.Reading.{left};
 use crate::text::is_blank;
 use std::alloc::{AllocError, Global};
 
-/// Where the line that begins at `from` ends: at a newline, or at the end of the text.
-fn line_end(text: &[u8], from: usize) -> usize
-    requires { from ≤ length text.now }
-    ensures { (from ≤ result) × (result ≤ length text.now) }
-{
-    for i in from..text.len() {
-        if text[i] == b'\n' {
-            return i;
-        }
-    }
-    text.len()
-}
-
-/// Where the word that begins at `from` ends: at a blank, or at the end of the line.
-fn word_end(line: &[u8], from: usize) -> usize
-    requires { from < length line.now }
-    ensures { (from < result) × (result ≤ length line.now) }
-{
-    for i in from + 1..line.len() {
-        if is_blank(line[i]) {
-            return i;
-        }
-    }
-    line.len()
-}
-
 /// The words of a line: what stands between blanks.
 fn words<'a>(heap: Global, line: &'a [u8]) -> Result<Vec<&'a [u8]>, AllocError> {
-    let mut all = Vec::new(heap);
-    let mut at = 0;
-    while at < line.len() {
-        if is_blank(line[at]) {
-            at += 1;
-        } else {
-            let end = word_end(line, at);
-            all.push(&line[at..end])?;
-            at = end;
-        }
-    }
-    Ok(all)
-}
-
-/// Lines without words, and comments.
-fn is_passed_over(words: &[&[u8]]) -> bool {
-    match words {
-        [] => true,
-        [first, ..] => matches!(first, [b'#', ..]),
-    }
+    line.split(|b| is_blank(*b))
+        .filter(|word| !word.is_empty())
+        .collect(heap)
 }
 
 /// The lines that are still to be read.
@@ -67,32 +24,34 @@ impl<'a> Lines<'a> {
         Lines { heap, rest: input }
     }
 
-    /// The words of the next line that is not passed over.
+    /// The next line, up to a newline or to the end of the input.
+    fn next_line(&mut self) -> Option<&'a [u8]>
+        ensures onward { left self.new ≤ left self.old }
+        ensures read { OnSome result (left self.new < left self.old) }
+    {
+        if self.rest.is_empty() {
+            return None;
+        }
+        let text = self.rest;
+        let (line, rest) = match text.iter().position(|b| *b == b'\n') {
+            Some(end) => (&text[..end], &text[end + 1..]),
+            None => (text, &text[text.len()..]),
+        };
+        self.rest = rest;
+        Some(line)
+    }
+
+    /// The words of the next line that has any and is no comment.
     pub fn next_command(&mut self) -> Result<Option<Vec<&'a [u8]>>, AllocError>
         ensures onward { left self.new ≤ left self.old }
         ensures read { IfOk result (λ o. OnSome o (left self.new < left self.old)) }
     {
-        while !self.rest.is_empty() {
-            let text = self.rest;
-            let end = line_end(text, 0);
-            self.rest = after(text, end);
-            let words = words(self.heap, &text[0..end])?;
-            if !is_passed_over(&words) {
+        while let Some(line) = self.next_line() {
+            let words = words(self.heap, line)?;
+            if !matches!(words.as_slice(), [] | [[b'#', ..], ..]) {
                 return Ok(Some(words));
             }
         }
         Ok(None)
-    }
-}
-
-/// What follows the line that ends there.
-fn after(text: &[u8], end: usize) -> &[u8]
-    requires { 0 < length text.now }
-    ensures { length result.now < length text.now }
-{
-    if end < text.len() {
-        &text[end + 1..]
-    } else {
-        &[]
     }
 }

@@ -3,8 +3,8 @@ use Rattle.survivorship.specs.Text.{digit}
 use Rattle.survivorship.proofs.Decimal.{goes_on, no_digit, too_large, ends}
 use Rattle.survivorship.proofs.numbers.number.Goals as goal
 
-pub returns-then-not-is_digit : goal.returns-then-not-is_digit
-returns-then-not-is_digit c =
+pub returns-then-not-is_ascii_digit : goal.returns-then-not-is_ascii_digit
+returns-then-not-is_ascii_digit c =
     let d : digit (get_or c.args.word.now c.loop-b.b-index 0) ≡ false = search rules in
     let h : c.loop-b.b-index < length c.args.word.now = omega arith in
     record {

@@ -1,7 +1,7 @@
-use Rattle.std.proofs.Common.{◌≡◌, ◌*◌, drop, vec_items}
+use Rattle.std.proofs.Common.{◌≡◌, drop, vec_items}
 use Rattle.survivorship.specs.Text.{hex_bytes}
-use Rattle.survivorship.proofs.Hex.{onto}
+use Rattle.survivorship.proofs.Hex.{onto, pairs_read}
 use Rattle.survivorship.proofs.text.hex_bytes.Given as goal
 
-abbrev pub invariant-loop-i : goal.invariant-loop-i
-invariant-loop-i l = onto (vec_items l.bytes) (hex_bytes (drop (2 * l.i) l.word)) ≡ hex_bytes l.word
+abbrev pub invariant-loop-high : goal.invariant-loop-high
+invariant-loop-high l = onto (vec_items l.bytes) (pairs_read (drop l.high-index l.pairs)) ≡ hex_bytes l.word

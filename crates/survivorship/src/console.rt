@@ -1,11 +1,21 @@
-//! What is printed for each line.
+//! The lines that are read, and what is printed for each.
 ghost use Rattle.std.specs.Prelude.{◌≡◌, IfErr};
 ghost use Rattle.std.specs.IoError.{error_kind};
 
-use crate::answers::{Unanswered, done};
+use crate::answers::done;
 use crate::text::echo;
+use crate::unanswered::Unanswered;
+use crate::words::Lines;
 use std::alloc::{AllocError, Global};
+use std::fmt::Display;
 use std::io::{self, BufWriter, ErrorKind, Stdout, Write};
+
+/// What is read and what is printed.
+#[derive(Drop)]
+pub struct Console<'a> {
+    pub lines: Lines<'a>,
+    pub printer: Printer,
+}
 
 /// What is printed, and whether every line so far was understood.
 #[derive(Drop)]
@@ -33,17 +43,15 @@ impl Printer {
         words: &[&[u8]],
         answer: Result<String, Unanswered>,
     ) -> anyhow::Result<()> {
-        let text = match answer {
-            Ok(text) => text,
-            Err(Unanswered::NoMemory) => return Err(AllocError.into()),
+        match answer {
+            Ok(text) => self.line(words, &text),
+            Err(Unanswered::Refused(refusal)) => self.line(words, &refusal),
             Err(Unanswered::NotUnderstood) => {
                 self.understood = false;
-                String::from_str(self.heap, "not understood")?
+                self.line(words, &"not understood")
             }
-        };
-        let line = printed(self.heap, words, &text)?;
-        self.out.write_all(&line)?;
-        Ok(())
+            Err(Unanswered::NoMemory) => Err(AllocError.into()),
+        }
     }
 
     pub fn print_done(&mut self, words: &[&[u8]]) -> anyhow::Result<()> {
@@ -51,24 +59,21 @@ impl Printer {
         self.print(words, Ok(answer))
     }
 
+    /// A command's words, an arrow and what came of it.
+    fn line(&mut self, words: &[&[u8]], answer: &impl Display) -> anyhow::Result<()> {
+        let mut echoed = Vec::new(self.heap);
+        for word in words {
+            echoed.extend(word.iter().map(|b| echo(*b)))?;
+            echoed.push(b' ')?;
+        }
+        self.out.write_all(&echoed)?;
+        writeln!(self.out, "-> {answer}")?;
+        Ok(())
+    }
+
     /// Prints what is still held back, and tells whether every line was understood.
     pub fn finish(mut self) -> anyhow::Result<bool> {
         self.out.flush()?;
         Ok(self.understood)
     }
-}
-
-/// The line that is printed for a command: its words, an arrow and what came of it.
-fn printed(heap: Global, words: &[&[u8]], answer: &str) -> Result<Vec<u8>, AllocError> {
-    let mut line = Vec::new(heap);
-    for word in words {
-        for b in *word {
-            line.push(echo(*b))?;
-        }
-        line.push(b' ')?;
-    }
-    line.extend_from_slice(b"-> ")?;
-    line.extend_from_slice(answer.as_bytes())?;
-    line.push(b'\n')?;
-    Ok(line)
 }

@@ -1,5 +1,5 @@
 use Rattle.survivorship.specs.Reading.{left}
-use Rattle.survivorship.proofs.run.Given as goal
+use Rattle.survivorship.proofs.sessions.run.Given as goal
 
 abbrev pub decreases-loop-words : goal.decreases-loop-words
-decreases-loop-words l = left l.lines
+decreases-loop-words l = left l.console.lines
