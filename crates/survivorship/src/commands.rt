@@ -1,8 +1,8 @@
 //! The commands that need no roster.
-use crate::answers::Unanswered::{self, NotUnderstood};
 use crate::answers::{filled, table_text};
 use crate::numbers::{short_number, short_numbers, size};
 use crate::text::{fields_text, hex_bytes};
+use crate::unanswered::Unanswered::{self, NotUnderstood};
 use exchangeable::exchangeable_row;
 use money::{factor, money_row};
 use reply::unpack;

@@ -2,8 +2,9 @@
 ghost use Rattle.std.specs.Prelude.{◌≡◌, IfErr};
 ghost use Rattle.std.specs.IoError.{error_kind};
 
-use crate::answers::{Unanswered, done};
+use crate::answers::done;
 use crate::text::echo;
+use crate::unanswered::Unanswered;
 use crate::words::Lines;
 use std::alloc::{AllocError, Global};
 use std::fmt::Display;

@@ -8,6 +8,7 @@ mod numbers;
 mod sessions;
 mod text;
 mod typed;
+mod unanswered;
 mod words;
 
 use console::{Console, Printer};

@@ -2,7 +2,7 @@
 ghost use Rattle.std.specs.Prelude.{◌≡◌, ℕ, ◌≤◌, IfSome};
 ghost use Rattle.survivorship.specs.Text.{number_within};
 
-use crate::answers::Unanswered;
+use crate::unanswered::Unanswered;
 use std::alloc::Global;
 
 /// The most cells that a roster is opened with, and the most entries of a table.

@@ -2,13 +2,13 @@
 ghost use Rattle.std.specs.Prelude.{◌≤◌};
 ghost use Rattle.survivorship.specs.Reading.{left};
 
-use crate::answers::Unanswered::{self, NotUnderstood};
 use crate::answers::{done, filled, table_text};
 use crate::commands::obey;
 use crate::console::Console;
 use crate::numbers::{short_number, size};
 use crate::text::hex_text;
 use crate::typed::Typed;
+use crate::unanswered::Unanswered::{self, NotUnderstood};
 use figures::{Dual, Packable, Residue, Ring, Scenarios, Word};
 use reply::asked;
 use roster::{Cell, Roster, close, take_into_use};
