@@ -102,7 +102,7 @@ impl<'a> Table<'a> {
     }
 
     /// V(k, m) at each place k up to m.
-    // An array for the longest table: no call takes memory.
+    // An array for the longest table: no heap is used.
     fn column(&self, m: usize) -> [i64; LENGTH]
         requires { m ≤ top self.now.coefficients.now }
         ensures { (k : ℕ) → k < m + 1 → slice_index_or result k (pos 0) ≡ value self.now.coefficients.now k m }
@@ -130,7 +130,7 @@ fn next_binomials(row: &mut [u64])
 }
 
 /// C(m, k) at each place k.
-// An array for the longest row: no call takes memory.
+// An array for the longest row: no heap is used.
 fn binomials(m: usize) -> [u64; LENGTH]
     requires { m < 33 }
     ensures { (k : ℕ) → k < 33 → slice_index result k ≡ choose m k }

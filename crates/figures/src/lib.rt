@@ -56,6 +56,7 @@ pub trait Ring: Copy {
 /// A kind whose figures go into reply records.
 pub trait Packable: Ring {
     /// The kind's number in a record, and how many bits its figures take there.
+    // A number, not an enum: it goes into the record as it is.
     const KIND: u8;
 
     const WIDTH: u32;

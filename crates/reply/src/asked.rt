@@ -1,7 +1,6 @@
 //! The reply of a roster to a question.
 ghost use Rattle.std.specs.Prelude.{◌≡◌, ℕ, ◌<◌, ◌≤◌, true, false, ◌&&◌, length, Ok, MatchOption, MatchResult, nat_le};
 ghost use Rattle.roster.specs.Cells.{OfLedger};
-ghost use Rattle.roster.specs.Ledger.{Ledger};
 ghost use Rattle.reply.specs.Asked.{counted, asking, fields_for, unwritten_number, Written};
 ghost use Rattle.reply.specs.Rules.{replied, question_number};
 
@@ -56,7 +55,7 @@ fn answered<F: Packable>(roster: &Roster<'_, F>, question: u32, k: u32) -> Optio
 }
 
 /// Asks a roster a question, 1 exactly, 2 at least or 3 lives, and writes the record into the first 16 bytes.
-// Two numbers, as they come over the line: a wrong question has a refusal of its own, and so has a large k.
+// Two numbers, as they come over the line: a wrong question has a refusal of its own, and a large k is answered.
 pub fn reply<F: Packable>(
     roster: &Roster<'_, F>,
     question: u32,

@@ -4,7 +4,7 @@
 ghost use Rattle.std.specs.Prelude.{◌≡◌, ◌≢◌, ℕ, ◌+◌, ◌*◌, ◌^◌, ◌<◌, ◌≤◌, true, length, Ok, MatchOption};
 ghost use Rattle.std.specs.Int.Digits.{number_from_digits, AllBelowBase};
 ghost use Rattle.reply.specs.Layout.{part, Holds};
-ghost use Rattle.reply.specs.Rules.{refusal_number, counts, answered, refused, told, kindly, acceptable, checked, unpacked, fields_of, question_number};
+ghost use Rattle.reply.specs.Rules.{refusal_number, counts, answered, refused, told, kindly, acceptable, checked, unpacked, fields_of};
 
 pub mod asked;
 mod counts;
@@ -70,7 +70,7 @@ impl Refusal {
 
 impl Count {
     /// None above 64.
-    // As `NonZero::new`, which is an `Option` too.
+    // As `NonZero::new`: an error of `TryFrom` would have nothing to say.
     pub fn new(number: u8) -> Option<Count>
         ensures { MatchOption result (64 < number) (λ n. n.number ≡ number) }
     {
@@ -82,6 +82,7 @@ impl Count {
 }
 
 /// The part of a number that the layout places there.
+// Two numbers, not a struct: each pair is a row of the layout and is used once.
 fn part_at(n: u128, place: u32, width: u32) -> u64
     requires { (place + width ≤ 128) × ((0 < width) × (width ≤ 64)) }
     ensures { (result ≡ part n place width) × (result < 2 ^ width) }

@@ -6,12 +6,13 @@ use Rattle.algebra.specs.Ring.{Ops}
 use Rattle.roster.specs.Ledger.{Ledger, without, changed}
 use Rattle.roster.specs.declared.cells.Cell.{Cell}
 
--- The sums of some lives become those of others, in a pass that goes up and keeps in hand a sum of the cell below.
+-- The sums of some lives become those of others, in a pass from the first cell up. `below` is a sum of the cell before.
 module _ {F P : Type 0} (o : Ops F) (plain : F → P) (figure : P → F) where
+  -- A cell with another sum.
   abbrev pub with_sum : Cell P → F → Cell P
   with_sum cell sum = record { figure = cell.figure; sum = plain sum; number = cell.number }
 
-  -- One life more, of figure p: each sum has p times the one below it added, as that was.
+  -- One life more, of figure p: p times the old sum below is added to each.
   abbrev pub multiplied : F → List (Cell P) → List (Cell P)
   multiplied p cells = scan (λ below cell. figure cell.sum) (λ below cell. with_sum cell (o.plus (figure cell.sum) (o.times p below))) o.zero cells
 
@@ -23,7 +24,7 @@ module _ {F P : Type 0} (o : Ops F) (plain : F → P) (figure : P → F) where
   abbrev pub divided : F → List (Cell P) → List (Cell P)
   divided p cells = scan (rest p) (λ below cell. with_sum cell (rest p below cell)) o.zero cells
 
-  -- Figure q for one life, which was p.
+  -- Another figure for one life: q in place of p.
   abbrev pub exchanged : F → F → List (Cell P) → List (Cell P)
   exchanged p q cells = scan (rest p) (λ below cell. with_sum cell (o.plus (rest p below cell) (o.times q below))) o.zero cells
 

@@ -10,7 +10,7 @@ use figures::Ring;
 /// The most lives that there are ever.
 pub(crate) const MOST: usize = 64;
 
-/// Nothing but the cells says it: the lives are those from cell 1 on, up to the first without a number.
+/// How many lives the cells hold: those from cell 1 on, up to the first without a number.
 pub(crate) fn count<F: Ring>(cells: &[Cell<F::Plain>]) -> usize
     ensures few { result ≤ 64 }
     ensures within { 0 < result → result < length cells.now }

@@ -1,4 +1,5 @@
 //! One life more, one life less, another figure for a life: figures, numbers and sums together.
+//! What each says is a fact of two states, the cells before and after, which no type can carry.
 ghost use Rattle.std.specs.Prelude.{◌≡◌, ℕ, ◌+◌, ◌<◌, ◌≢◌, length, Some};
 ghost use Rattle.roster.specs.Ledger.{Ledger, place_of};
 ghost use Rattle.roster.specs.Cells.{Holds};

@@ -1,9 +1,9 @@
 //! Questions for one figure: exactly k, and at least k, alive.
-ghost use Rattle.std.specs.Prelude.{◌≡◌, ℕ, ◌+◌, ◌<◌, ◌≤◌, length, MatchResult};
+ghost use Rattle.std.specs.Prelude.{◌≡◌, ◌+◌, ◌<◌, ◌≤◌, length, MatchResult};
 ghost use Rattle.algebra.specs.Waring.{signed};
 ghost use Rattle.algebra.proofs.Waring.{entry, horner, summand};
 ghost use Rattle.roster.specs.Cells.{OfLedger, Met};
-ghost use Rattle.roster.specs.Ledger.{Ledger, Exactly, AtLeast, figures};
+ghost use Rattle.roster.specs.Ledger.{Exactly, AtLeast, figures};
 ghost use Rattle.roster.specs.Refusals.{figure_or};
 
 use crate::cells::Cell;
@@ -15,13 +15,13 @@ use crate::rosters::Roster;
 use figures::Ring;
 
 /// The largest count that may be asked for.
-const MOST: u32 = 64;
+const LARGEST: u32 = 64;
 
 /// A count that may be asked for, as a place among the cells.
 fn admitted(k: u32) -> Result<usize, Refusal>
     ensures { MatchResult result (λ p. (p ≡ k) × (k ≤ 64)) (λ e. (e ≡ Refusal.LargeCount) × (64 < k)) }
 {
-    if k > MOST {
+    if k > LARGEST {
         return Err(Refusal::LargeCount);
     }
     Ok(k as usize)

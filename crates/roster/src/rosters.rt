@@ -1,8 +1,8 @@
 //! The roster, and the calls that alter it.
-ghost use Rattle.std.specs.Prelude.{◌≡◌, ◌<◌, ◌≤◌, ◌≢◌, length, replicate, IfSome, IfOk, MatchResult};
-ghost use Rattle.roster.specs.Ledger.{Join, Leave, Change, Clear, Exactly, AtLeast, Composed, Triangle, Done, opened, capacity_of, place_of, answer};
+ghost use Rattle.std.specs.Prelude.{◌≡◌, ◌<◌, ◌≤◌, ◌≢◌, length, replicate, IfOk, MatchResult};
+ghost use Rattle.roster.specs.Ledger.{Join, Leave, Change, Clear, Done, opened, capacity_of, place_of, answer};
 ghost use Rattle.roster.specs.Cells.{Holds, HoldSome, OfLedger, Met, zero_cell};
-ghost use Rattle.roster.specs.Refusals.{done_or, figure_or, table_or};
+ghost use Rattle.roster.specs.Refusals.{done_or};
 ghost use Rattle.roster.specs.declared.refusals.Refusal.TheVariants.{OtherCells};
 
 use crate::cells::Cell;

@@ -1,11 +1,11 @@
 //! Rows: exactly 0 to exactly n alive, at the front of a table of figures in their plain form.
-ghost use Rattle.std.specs.Prelude.{◌≡◌, ℕ, ◌+◌, ◌<◌, ◌≤◌, map, length};
+ghost use Rattle.std.specs.Prelude.{◌≡◌, ◌+◌, ◌<◌, ◌≤◌, map, length};
 ghost use Rattle.std.specs.List.{range_with_len};
 ghost use Rattle.algebra.specs.Ring.{semi};
 ghost use Rattle.algebra.proofs.Composition.{compose};
 ghost use Rattle.algebra.proofs.Waring.{entry};
 ghost use Rattle.roster.specs.Cells.{OfLedger, Met};
-ghost use Rattle.roster.specs.Ledger.{Ledger, Composed, Triangle, figures};
+ghost use Rattle.roster.specs.Ledger.{Composed, Triangle, figures};
 ghost use Rattle.roster.specs.Refusals.{table_or};
 ghost use Rattle.roster.specs.Triangle.{differences};
 

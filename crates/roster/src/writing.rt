@@ -20,7 +20,8 @@ pub(crate) fn wipe<F: Ring>(cells: &mut [Cell<F::Plain>])
     cells.fill_with(|| blank);
 }
 
-/// The sums become those with one life more, for which the last cell is.
+// Three passes, not one with a closure for its step: each reads as the rule that it states.
+/// The sums become those with one life more. The last cell is the new life's.
 pub(crate) fn multiply_in<F: Ring>(cells: &mut [Cell<F::Plain>], figure: F)
     ensures { cells.new ≡ multiplied F.Ring.ops F.Ring.plain F.Ring.figure figure cells.old }
 {

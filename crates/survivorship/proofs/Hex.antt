@@ -1,6 +1,9 @@
 -- Reading and printing hex digits two by two. Assumes nothing.
-use Rattle.std.proofs.Common.{◌≡◌, ℕ, suc, ◌+◌, ◌*◌, ◌/◌, ◌%◌, ◌<◌, ◌≤◌, List, [], ◌∷◌, ◌++◌, length, get_or, take, drop, Some, None, Option, sym, refl, ap, ◌∙◌, append_assoc, append-nil, arith}
+use Rattle.std.proofs.Common.{◌≡◌, ℕ, suc, ◌+◌, ◌*◌, ◌/◌, ◌%◌, ◌^◌, ◌-◌, ◌<◌, ◌≤◌, false, List, [], ◌∷◌, ◌++◌, length, get_or, take, drop, Some, None, Option, sym, refl, ap, ◌∙◌, append_assoc, append-nil, arith}
+use Rattle.std.proofs.lemmas.Bool.Decides.{nat_tests}
+use Rattle.std.proofs.lemmas.Fmt.{hex_byte}
 use Rattle.std.proofs.lemmas.List.{drop_all, drop_more, take_more}
+use Rattle.std.specs.Fmt.{digit_glyph, digits, format_spec, padded_integral}
 use Rattle.std.specs.Simd.{first_chunks}
 use Rattle.survivorship.specs.Text.{hex_digit, joined, hex_bytes, hex_char, hex_text}
 
@@ -71,16 +74,19 @@ module _ (pairs : List (List ℕ)) (i : ℕ) (d : List ℕ) (h : i < length pair
 pub pairs_all : (pairs : List (List ℕ)) (i : ℕ) (xs : List ℕ) (bytes : Option (List ℕ)) → length pairs ≤ i → onto xs (pairs_read (drop i pairs)) ≡ bytes → bytes ≡ Some xs
 pairs_all pairs i xs bytes h inv = sym inv ∙ ap (λ ps. onto xs (pairs_read ps)) (drop_all i pairs h) ∙ ap Some (append-nil xs)
 
--- one byte more as it is printed, by its two digits
-pub text_more : (bytes : List ℕ) (i high low : ℕ) (written : List ℕ) → i < length bytes → high ≡ hex_char (get_or bytes i 0 / 16) → low ≡ hex_char (get_or bytes i 0 % 16)
-    → written ≡ hex_text (take i bytes) → (written ++ (high ∷ [])) ++ (low ∷ []) ≡ hex_text (take (i + 1) bytes)
-text_more bytes i high low written h e f w =
-    append_assoc written (high ∷ []) (low ∷ [])
-    ∙ ap (λ t. t ++ (high ∷ low ∷ [])) w
-    ∙ ap (λ d. hex_text (take i bytes) ++ (d ∷ low ∷ [])) e
-    ∙ ap (λ d. hex_text (take i bytes) ++ (hex_char (get_or bytes i 0 / 16) ∷ d ∷ [])) f
-    ∙ sym (ap hex_text (take_more bytes i 0 h) ∙ both (take i bytes) (get_or bytes i 0 ∷ []))
+-- one byte more as it is printed
+pub text_more : (bytes : List ℕ) (i : ℕ) → i < length bytes → get_or bytes i 0 < 256
+    → hex_text (take i bytes) ++ padded_integral (format_spec 32 0 4 2 (2 ^ 64 - 1)) false [] (digits 16 false (get_or bytes i 0)) ≡ hex_text (take (i + 1) bytes)
+text_more bytes i h fits =
+    ap (λ t. hex_text (take i bytes) ++ t) (hex_byte false (get_or bytes i 0) fits ∙ glyphs (get_or bytes i 0))
+    ∙ sym (ap hex_text (take_more bytes i 0 h) ∙ hex_text_append (take i bytes) (get_or bytes i 0 ∷ []))
   where
-    both : (xs ys : List ℕ) → hex_text (xs ++ ys) ≡ hex_text xs ++ hex_text ys
-    both [] ys = refl
-    both (x ∷ xs) ys = ap (λ t. hex_char (x / 16) ∷ hex_char (x % 16) ∷ t) (both xs ys)
+    glyph : (d : ℕ) → digit_glyph false d ≡ hex_char d
+    glyph d = grind (arith, nat_tests)
+
+    glyphs : (b : ℕ) → digit_glyph false (b / 16) ∷ digit_glyph false (b % 16) ∷ [] ≡ hex_char (b / 16) ∷ hex_char (b % 16) ∷ []
+    glyphs b = ap (λ x. x ∷ digit_glyph false (b % 16) ∷ []) (glyph (b / 16)) ∙ ap (λ y. hex_char (b / 16) ∷ y ∷ []) (glyph (b % 16))
+
+    hex_text_append : (xs ys : List ℕ) → hex_text (xs ++ ys) ≡ hex_text xs ++ hex_text ys
+    hex_text_append [] ys = refl
+    hex_text_append (x ∷ xs) ys = ap (λ t. hex_char (x / 16) ∷ hex_char (x % 16) ∷ t) (hex_text_append xs ys)

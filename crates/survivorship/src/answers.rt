@@ -12,6 +12,7 @@ pub fn done(heap: Global) -> Result<String, AllocError>
 }
 
 /// The entries with a blank between.
+// No `join`: it wants all the texts in memory first.
 pub fn table_text<P: Typed>(heap: Global, table: &[P]) -> Result<String, AllocError>
     ensures { IfOk result (λ s. string_bytes s ≡ spaced (map P.Typed.text table.now)) }
 {
@@ -30,10 +31,8 @@ pub fn table_text<P: Typed>(heap: Global, table: &[P]) -> Result<String, AllocEr
 pub fn filled<P: Copy>(heap: Global, value: P, count: usize) -> Result<Vec<P>, AllocError>
     ensures { IfOk result (λ t. t.items ≡ replicate count value) }
 {
-    // No `vec!`: it clones, and a proof does not know what a `Copy` type's clone is.
+    // Not `vec!`: it clones, and a proof does not know what a `Copy` type's clone is.
     let mut table = Vec::new(heap);
-    for _ in 0..count {
-        table.push(value)?;
-    }
+    table.resize_with(count, || value)?;
     Ok(table)
 }

@@ -1,5 +1,5 @@
 //! Decimal numbers as they are typed.
-ghost use Rattle.std.specs.Prelude.{◌≡◌, ℕ, ◌≤◌, IfSome};
+ghost use Rattle.std.specs.Prelude.{◌≡◌, ◌≤◌, IfSome};
 ghost use Rattle.survivorship.specs.Text.{number_within};
 
 use crate::unanswered::Unanswered;
@@ -8,6 +8,7 @@ use std::alloc::Global;
 /// The most cells that a roster is opened with, and the most entries of a table.
 const MOST: u64 = 1000;
 
+// No `parse`: it takes text, and a sign before the digits.
 /// The number that a word of digits writes; none where it is empty, a byte is no digit, or the number is above the limit.
 pub fn number(word: &[u8], limit: u64) -> Option<u64>
     ensures value { result ≡ number_within limit word.now }

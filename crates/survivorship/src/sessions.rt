@@ -6,7 +6,7 @@ use crate::answers::{done, filled, table_text};
 use crate::commands::obey;
 use crate::console::Console;
 use crate::numbers::{short_number, size};
-use crate::text::hex_text;
+use crate::text::Hex;
 use crate::typed::Typed;
 use crate::unanswered::Unanswered::{self, NotUnderstood};
 use figures::{Dual, Packable, Residue, Ring, Scenarios, Word};
@@ -156,7 +156,7 @@ where
             let k = short_number(k).ok_or(NotUnderstood)?;
             let mut out = filled(heap, 0u8, size(bytes).ok_or(NotUnderstood)?)?;
             asked::reply(roster, question, k, &mut out)?;
-            hex_text(heap, &out)
+            Hex(&out).to_string(heap)
         }
         _ => return obey(heap, words),
     };

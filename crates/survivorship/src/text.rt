@@ -1,10 +1,11 @@
 //! Bytes, hex and records as text.
-ghost use Rattle.std.specs.Prelude.{◌≡◌, ℕ, ◌<◌, ◌≤◌, IfSome, IfOk, vec_items, string_bytes};
+ghost use Rattle.std.specs.Prelude.{◌≡◌, ◌<◌, Some, IfSome, IfOk, vec_items, string_bytes};
 ghost use Rattle.std.specs.Option.{option_map};
-ghost use Rattle.survivorship.specs.Text.{blank, echoed, hex_digit, hex_bytes, hex_char, hex_text, fields_text};
+ghost use Rattle.survivorship.specs.Text.{blank, echoed, hex_digit, hex_bytes, hex_text, fields_text};
 
 use reply::Fields;
 use std::alloc::{AllocError, Global};
+use std::fmt;
 
 pub fn is_blank(b: u8) -> bool
     ensures { result ≡ blank b }
@@ -42,33 +43,22 @@ pub fn hex_bytes(heap: Global, word: &[u8]) -> Result<Option<Vec<u8>>, AllocErro
     Ok(Some(bytes))
 }
 
-/// A hex digit as it is printed, in lower case.
-fn hex_char(digit: u8) -> u8
-    requires { digit < 16 }
-    ensures value { result ≡ hex_char digit }
-    ensures ascii { result < 128 }
-{
-    if digit < 10 {
-        b'0' + digit
-    } else {
-        b'a' + (digit - 10)
+/// Bytes as hex digits, two for each, in lower case.
+#[derive(Drop)]
+pub struct Hex<'a>(pub &'a [u8]);
+
+impl fmt::Display for Hex<'_> {
+    ghost output = { λ h. Some (hex_text h.0.now) };
+
+    fn fmt<W: fmt::Write>(&self, f: &mut fmt::Formatter<W>) -> fmt::Result {
+        for &b in self.0 {
+            write!(f, "{b:02x}")?;
+        }
+        Ok(())
     }
 }
 
-/// Bytes as hex digits, two for each.
-// Pushed, and no `Display`: a formatter takes several times as long for each digit.
-pub fn hex_text(heap: Global, bytes: &[u8]) -> Result<String, AllocError>
-    ensures { IfOk result (λ s. string_bytes s ≡ hex_text bytes.now) }
-{
-    let mut text = String::new(heap);
-    for b in bytes {
-        text.push(hex_char(b / 16) as char)?;
-        text.push(hex_char(b % 16) as char)?;
-    }
-    Ok(text)
-}
-
-// No `Display`: `Fields` is another crate's.
+// No `Display`: the words are the program's, and `Fields` is a library's.
 pub fn fields_text(heap: Global, f: &Fields) -> Result<String, AllocError>
     ensures { IfOk result (λ s. string_bytes s ≡ fields_text f.now) }
 {

@@ -6,7 +6,7 @@ use crate::numbers::{number, short_number};
 use figures::Dual;
 use std::alloc::{AllocError, Global};
 
-// `show`, and no `Display`: a slope's type is another crate's.
+// `show`, and no `Display`: how figures are printed is the program's, and a slope's type is a library's.
 pub trait Typed: Copy {
     // The figure that a word writes, and the text that is printed for one.
     ghost reads: { List ℕ → Option Self };

@@ -19,7 +19,7 @@ pub enum Unanswered {
     NoMemory,
 }
 
-/// A refusal's number, and its place where it has one.
+/// A refusal's number, and its place where it has one: all that is printed of it.
 #[derive(Clone, Copy)]
 pub struct Refusal {
     number: u32,
@@ -62,6 +62,7 @@ impl<T: Drop> From<AllocFailed<T>> for Unanswered {
     }
 }
 
+// An impl for each library's refusals: a trait over them would only say `number` and `place` once more.
 impl From<money::Refusal> for Unanswered {
     ghost from_gives = { λ r u. u ≡ Refused (record { number = number r; place = place r }) };
 

@@ -1,5 +1,5 @@
 //! Lines and words of the input.
-ghost use Rattle.std.specs.Prelude.{◌≡◌, ℕ, ◌<◌, ◌≤◌, length, IfOk, OnSome};
+ghost use Rattle.std.specs.Prelude.{◌<◌, ◌≤◌, IfOk, OnSome};
 ghost use Rattle.survivorship.specs.Reading.{left};
 
 use crate::text::is_blank;
