@@ -293,6 +293,7 @@ fn stale<P: Copy>(figure: P) -> Cell<P> {
     }
 }
 
+// A test for each kind: where the kind is open, it is not known how large its cells are.
 #[test]
 fn week_of_words(rt: HostRuntime) -> Result<(), Fail> {
     let whole = 1_000_000_007;

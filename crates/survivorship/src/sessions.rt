@@ -97,6 +97,7 @@ where
 }
 
 /// A line between `open` and `close`.
+// An arm for each command, each whole: those that look alike make another call.
 fn ask<F: Packable>(
     heap: Global,
     roster: &mut Roster<F>,
