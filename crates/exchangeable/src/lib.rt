@@ -94,24 +94,26 @@ impl<'a> Table<'a> {
         ensures { (k : ℕ) → k < m + 1
             → slice_index_or values.new k (pos 0) ≡ value self.now.coefficients.now k m }
     {
-        values[m] = self.coefficients[m] as i64;
+        let mut above = self.coefficients[m] as i64;
+        values[m] = above;
         // By index: a proof knows nothing of what is written through a reversed iterator.
         for k in (0..m).rev() {
-            values[k] -= values[k + 1];
+            above = values[k] - above;
+            values[k] = above;
         }
     }
 
-    /// V(k, m) at each place k up to m.
-    // An array for the longest table: no call takes memory.
-    fn column(&self, m: usize) -> [i64; LENGTH]
-        requires { m ≤ top self.now.coefficients.now }
-        ensures { (k : ℕ) → k < m + 1 → slice_index_or result k (pos 0) ≡ value self.now.coefficients.now k m }
+    /// From V(k, from − 1) for each k below `from` to V(k, to − 1) for each k below `to`, in place.
+    fn extend_to(&self, values: &mut [i64], from: usize, to: usize)
+        requires within { (from ≤ to) × (to ≤ length self.now.coefficients.now) × (to ≤ length values.old) }
+        requires before { (k : ℕ) → k < from
+            → slice_index_or values.old k (pos 0) ≡ value self.now.coefficients.now k (from - 1) }
+        ensures { (k : ℕ) → k < to
+            → slice_index_or values.new k (pos 0) ≡ value self.now.coefficients.now k (to - 1) }
     {
-        let mut values = [0; LENGTH];
-        for i in 0..m + 1 {
-            self.extend(&mut values, i);
+        for m in from..to {
+            self.extend(values, m);
         }
-        values
     }
 }
 
@@ -129,31 +131,29 @@ fn next_binomials(row: &mut [u64])
     }
 }
 
-/// C(m, k) at each place k.
-// An array for the longest row: no call takes memory.
-fn binomials(m: usize) -> [u64; LENGTH]
-    requires { m < 33 }
-    ensures { (k : ℕ) → k < 33 → slice_index result k ≡ choose m k }
+/// Writes C(m, k) at each place k, for the last place m.
+fn binomials(row: &mut [u64])
+    requires { (0 < length row.old) × (length row.old ≤ 33) }
+    ensures { (k : ℕ) → k < length row.old → slice_index row.new k ≡ choose (length row.old - 1) k }
 {
-    let mut row = [0; LENGTH];
     row[0] = 1;
-    for _ in 0..m {
-        next_binomials(&mut row);
+    for n in 1..row.len() {
+        row[n] = 0;
+        next_binomials(&mut row[..n + 1]);
     }
-    row
 }
 
-/// Writes the products of the factors and values.
-fn multiply(out: &mut [u64], factors: &[u64], values: &[i64])
-    requires lengths { (length factors.now ≡ length out.old) × (length values.now ≡ length out.old) }
-    requires sizes { (k : ℕ) → k < length out.old → (slice_index factors.now k ≤ 2 ^ 32)
+/// Multiplies each entry by its value.
+fn multiply(row: &mut [u64], values: &[i64])
+    requires lengths { length row.old ≤ length values.now }
+    requires sizes { (k : ℕ) → k < length row.old → (slice_index row.old k ≤ 2 ^ 32)
         × (pos 0 ≤ℤ slice_index_or values.now k (pos 0)) × (slice_index_or values.now k (pos 0) ≤ℤ pos (2 ^ 30)) }
-    ensures { (k : ℕ) → k < length out.old
-        → pos (slice_index out.new k) ≡ pos (slice_index factors.now k) *ℤ slice_index_or values.now k (pos 0) }
+    ensures { (k : ℕ) → k < length row.old
+        → pos (slice_index row.new k) ≡ pos (slice_index row.old k) *ℤ slice_index_or values.now k (pos 0) }
 {
     // No zip: a proof knows nothing of what is written through one.
-    for (k, entry) in out.iter_mut().enumerate() {
-        *entry = factors[k] * values[k] as u64;
+    for (k, entry) in row.iter_mut().enumerate() {
+        *entry *= values[k] as u64;
     }
 }
 
@@ -172,15 +172,17 @@ pub fn exchangeable_row(table: &[u32], m: u32, out: &mut [u64]) -> Result<(), Re
     if m >= out.len() {
         return Err(Refusal::ShortOutput);
     }
-    let weights = table.column(top);
+    let count = m + 1;
+    // An array for the longest table: no call takes memory.
+    let mut weights = [0; LENGTH];
+    table.extend_to(&mut weights, 0, count);
+    let chosen = weights;
+    table.extend_to(&mut weights, count, top + 1);
     if let Some(place) = weights[..top + 1].iter().position(|w| *w < 0) {
         return Err(Refusal::Impossible { place });
     }
-    let count = m + 1;
-    multiply(
-        &mut out[..count],
-        &binomials(m)[..count],
-        &table.column(m)[..count],
-    );
+    let row = &mut out[..count];
+    binomials(row);
+    multiply(row, &chosen);
     Ok(())
 }
