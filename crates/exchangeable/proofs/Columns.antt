@@ -1,9 +1,10 @@
 -- What the passes over a column leave. Assumes nothing.
-use Rattle.std.proofs.Common.{◌≡◌, ℕ, zero, suc, ◌≢◌, ◌+◌, ◌-◌, ◌^◌, ◌<◌, ◌≤◌, ◌⊎◌, List, ◌∷◌, length, get_or, set, take, ℤ, ◌-ℤ◌, nat_abs, sym, ◌∙◌, ap, ap₂, inl, inr, pow-suc, arith, pow_mono, w64, SFits, to_z, of_z}
+use Rattle.std.proofs.Common.{◌≡◌, ℕ, zero, suc, ◌+◌, ◌-◌, ◌^◌, ◌<◌, ◌≤◌, ◌⊎◌, List, [], ◌∷◌, length, ◌++◌, get_or, take, drop, ℤ, ◌-ℤ◌, nat_abs, refl, sym, ◌∙◌, ap, ap₂, inl, inr, pow-suc, arith, pow_mono, w64, SFits, to_z, of_z}
 use Rattle.std.proofs.lemmas.Nat.{pow_pos}
-use Rattle.std.proofs.lemmas.List.{get_or_past, get_or-set_same, get_or-set_other, get_or-take}
+use Rattle.std.proofs.lemmas.List.{get_or_past, get_or_append_left, get_or-take}
 use Rattle.std.proofs.lemmas.Int.{ints, to_z-of_z}
-use Rattle.std.proofs.lemmas.Bool.{cases_eq, cases_lt}
+use Rattle.std.proofs.lemmas.Bool.{cases_lt}
+use Rattle.std.proofs.lemmas.Grind.{elements}
 use Rattle.algebra.specs.Binomial.{choose}
 use Rattle.exchangeable.specs.Answer.{Admitted}
 use Rattle.exchangeable.specs.Events.{value}
@@ -46,20 +47,32 @@ choose_size (suc n) (suc k) = rw (pow-suc 2 n) (omega (arith, choose_size n k, c
 pub choose_small : (n k : ℕ) → n ≤ 32 → choose n k ≤ 2 ^ 32
 choose_small n k h = omega (arith, choose_size n k, pow_mono {i = n} {j = 32} h)
 
--- a row of the triangle up to n, with a 0 at its end, and the next one
-module _ (row : List ℕ) (n : ℕ) (lt : n < length row) (up : 0 < n) (old : (k : ℕ) → k < n → get_or row k 0 ≡ choose (n - 1) k) where
-  pub entry : (k : ℕ) → k < n + 1 → get_or (take (n + 1) (set row n 0)) k 0 ≡ choose (n - 1) k
-  entry k l =
-      let at : (k ≡ n) ⊎ (k ≢ n) → get_or (set row n 0) k 0 ≡ choose (n - 1) k = λ o.
-      elim o [
-        | inl e ↦ rw e (get_or-set_same row n 0 0 lt ∙ sym (choose_past (n - 1) n (omega arith)))
-        | inr e ↦ get_or-set_other row n k 0 0 e ∙ old k (omega arith)
-      ] in
-      get_or-take (n + 1) (set row n 0) k 0 l ∙ at (cases_eq k n)
+pub choose_all : (n : ℕ) → choose n n ≡ 1
+choose_all zero = refl
+choose_all (suc n) = omega (arith, choose_all n, choose_past n (suc n) (omega arith))
 
-  pub next_entry : (k : ℕ) → k < n + 1
-      → get_or (0 ∷ take (n + 1) (set row n 0)) k 0 + get_or (take (n + 1) (set row n 0)) k 0 ≡ choose n k
-  next_entry zero l = omega (arith, entry zero l)
-  next_entry (suc k) l =
-      let e : suc (n - 1) ≡ n = omega arith in
-      ap₂ ◌+◌ (entry k (omega arith)) (entry (suc k) l) ∙ ap (λ i. choose i (suc k)) e
+-- what stands between the ones of a row of the triangle
+pub inner : (row : List ℕ) (n k : ℕ) → ((j : ℕ) → j < n → get_or row j 0 ≡ choose (n - 1) j) → k < n - 1
+    → get_or (take (n - 1) (drop 1 row)) k 0 ≡ choose (n - 1) (suc k)
+inner [] n k old l = get_or-take (n - 1) [] k 0 l ∙ old (suc k) (omega arith)
+inner (x ∷ xs) n k old l = get_or-take (n - 1) xs k 0 l ∙ old (suc k) (omega arith)
+
+-- from a row with a 1 at its end to the next
+pub next_row : (row new : List ℕ) (n : ℕ) → n < length row → 0 < n
+    → ((k : ℕ) → k < n → get_or row k 0 ≡ choose (n - 1) k) → get_or row n 0 ≡ 1 → length new ≡ n - 1
+    → ((k : ℕ) → k < n - 1 → get_or new k 0 ≡ get_or (1 ∷ take (n - 1) (drop 1 row)) k 0 + get_or (take (n - 1) (drop 1 row)) k 0)
+    → (k : ℕ) → k < n + 1 → get_or (take 1 row ++ (new ++ drop (n - 1) (drop 1 row))) k 0 ≡ choose n k
+next_row [] new n lt up old end long h k l = absurd (omega arith)
+next_row (x ∷ xs) new n lt up old end long h zero l = old 0 up
+next_row (x ∷ xs) new n lt up old end long h (suc k) l = at (cases_lt k (n - 1))
+  where
+    before : (j : ℕ) → j < n → get_or (1 ∷ take (n - 1) xs) j 0 ≡ choose (n - 1) j
+    before zero b = refl
+    before (suc j) b = inner (x ∷ xs) n j old (omega arith)
+
+    at : (k < n - 1) ⊎ (n - 1 ≤ k) → get_or (new ++ drop (n - 1) xs) k 0 ≡ choose n (suc k)
+    at (inl b) =
+        let e : suc (n - 1) ≡ n = omega arith in
+        get_or_append_left new _ 0 k (omega arith)
+        ∙ h k b ∙ ap₂ ◌+◌ (before k (omega arith)) (inner (x ∷ xs) n k old b) ∙ ap (λ i. choose i (suc k)) e
+    at (inr b) = let e : suc k ≡ n = omega arith in rw e (grind (arith, elements, end, choose_all))

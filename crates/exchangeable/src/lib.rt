@@ -117,14 +117,14 @@ impl<'a> Table<'a> {
     }
 }
 
-/// From a row of Pascal's triangle to the next: each entry takes on the one before it.
-fn next_binomials(row: &mut [u64])
-    requires { (k : ℕ) → k < length row.old → slice_index row.old k ≤ 2 ^ 32 }
-    ensures { (k : ℕ) → k < length row.old
-        → slice_index row.new k ≡ slice_index (0 ∷ row.old) k + slice_index row.old k }
+/// From a row of Pascal's triangle to the next, between their ones: each entry takes on the one before it.
+fn next_binomials(inner: &mut [u64])
+    requires { (k : ℕ) → k < length inner.old → slice_index inner.old k ≤ 2 ^ 32 }
+    ensures { (k : ℕ) → k < length inner.old
+        → slice_index inner.new k ≡ slice_index (1 ∷ inner.old) k + slice_index inner.old k }
 {
-    let mut before = 0;
-    for entry in row.iter_mut() {
+    let mut before = 1;
+    for entry in inner.iter_mut() {
         let old = *entry;
         *entry = before + old;
         before = old;
@@ -138,8 +138,8 @@ fn binomials(row: &mut [u64])
 {
     row[0] = 1;
     for n in 1..row.len() {
-        row[n] = 0;
-        next_binomials(&mut row[..n + 1]);
+        row[n] = 1;
+        next_binomials(&mut row[1..n]);
     }
 }
 
