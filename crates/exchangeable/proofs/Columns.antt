@@ -38,14 +38,17 @@ module _ (u : List ℕ) (a : Admitted u) (m k : ℕ) (lt : m < length u) (up : 0
   pub taken_back : to_z w64 (of_z w64 (to_z w64 (of_z w64 x) -ℤ y)) ≡ value u (k - 1) m
   taken_back = to_z-of_z w64 _ taken_fits ∙ taken
 
--- C(n, k) is at most 2^n
-choose_size : (n k : ℕ) → choose n k ≤ 2 ^ n
+-- C(n, k) is at most 2^(n − 1), where n is not 0
+choose_size : (n k : ℕ) → choose (suc n) k ≤ 2 ^ n
 choose_size n zero = omega (arith, pow_pos n)
-choose_size zero (suc k) = omega arith
+choose_size zero (suc zero) = omega arith
+choose_size zero (suc (suc k)) = omega arith
 choose_size (suc n) (suc k) = rw (pow-suc 2 n) (omega (arith, choose_size n k, choose_size n (suc k)))
 
-pub choose_small : (n k : ℕ) → n ≤ 32 → choose n k ≤ 2 ^ 32
-choose_small n k h = omega (arith, choose_size n k, pow_mono {i = n} {j = 32} h)
+pub choose_small : (n k : ℕ) → n ≤ 32 → choose n k ≤ 2 ^ 31
+choose_small zero zero h = omega arith
+choose_small zero (suc k) h = omega arith
+choose_small (suc n) k h = omega (arith, choose_size n k, pow_mono {i = n} {j = 31} (omega arith))
 
 pub choose_all : (n : ℕ) → choose n n ≡ 1
 choose_all zero = refl

@@ -68,7 +68,7 @@ module _ (u : List ℕ) (m : ℕ) (front fs : List ℕ) (vs : List ℤ) (all : l
   worth k l = values k (omega arith) ∙ ap (value u k) (omega arith)
 
   pub sizes : Admitted u → m ≤ top u → ((k : ℕ) → k ≤ top u → pos 0 ≤ℤ value u k (top u)) → (k : ℕ) → k < length fs
-      → (get_or fs k 0 ≤ 2 ^ 32) × (pos 0 ≤ℤ get_or vs k (pos 0)) × (get_or vs k (pos 0) ≤ℤ pos (2 ^ 30))
+      → (get_or fs k 0 ≤ 2 ^ 31) × (pos 0 ≤ℤ get_or vs k (pos 0)) × (get_or vs k (pos 0) ≤ℤ pos (2 ^ 30))
   sizes a le last k l =
       rw (factor k l, worth k l)
       (choose_small m k (omega (arith, a.0.1)), value_nonneg u a last k m (omega arith) le, value_small u a last k m (omega arith) le)

@@ -119,7 +119,7 @@ impl<'a> Table<'a> {
 
 /// From a row of Pascal's triangle to the next, between their ones: each entry takes on the one before it.
 fn next_binomials(inner: &mut [u64])
-    requires { (k : ℕ) → k < length inner.old → slice_index inner.old k ≤ 2 ^ 32 }
+    requires { (k : ℕ) → k < length inner.old → slice_index inner.old k ≤ 2 ^ 31 }
     ensures { (k : ℕ) → k < length inner.old
         → slice_index inner.new k ≡ slice_index (1 ∷ inner.old) k + slice_index inner.old k }
 {
@@ -146,14 +146,14 @@ fn binomials(row: &mut [u64])
 /// Multiplies each entry by its value.
 fn multiply(row: &mut [u64], values: &[i64])
     requires lengths { length row.old ≤ length values.now }
-    requires sizes { (k : ℕ) → k < length row.old → (slice_index row.old k ≤ 2 ^ 32)
+    requires sizes { (k : ℕ) → k < length row.old → (slice_index row.old k ≤ 2 ^ 31)
         × (pos 0 ≤ℤ slice_index_or values.now k (pos 0)) × (slice_index_or values.now k (pos 0) ≤ℤ pos (2 ^ 30)) }
     ensures { (k : ℕ) → k < length row.old
         → pos (slice_index row.new k) ≡ pos (slice_index row.old k) *ℤ slice_index_or values.now k (pos 0) }
 {
     // No zip: a proof knows nothing of what is written through one.
     for (k, entry) in row.iter_mut().enumerate() {
-        *entry *= values[k] as u64;
+        *entry = (*entry as u32) as u64 * (values[k] as u32) as u64;
     }
 }
 
