@@ -153,6 +153,7 @@ fn multiply(row: &mut [u64], values: &[i64])
 {
     // No zip: a proof knows nothing of what is written through one.
     for (k, entry) in row.iter_mut().enumerate() {
+        // Both fit 32 bits, and several such products are one instruction.
         *entry = (*entry as u32) as u64 * (values[k] as u32) as u64;
     }
 }
