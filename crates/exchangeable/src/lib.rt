@@ -176,7 +176,8 @@ pub fn exchangeable_row(table: &[u32], m: u32, out: &mut [u64]) -> Result<(), Re
     let count = m + 1;
     // An array for the longest table: no call takes memory.
     let mut weights = [0; LENGTH];
-    table.extend_to(&mut weights, 0, count);
+    weights[0] = table.coefficients[0] as i64;
+    table.extend_to(&mut weights, 1, count);
     let chosen = weights;
     table.extend_to(&mut weights, count, top + 1);
     if let Some(place) = weights[..top + 1].iter().position(|w| *w < 0) {
