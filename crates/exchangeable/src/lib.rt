@@ -176,6 +176,7 @@ pub fn exchangeable_row(table: &[u32], m: u32, out: &mut [u64]) -> Result<(), Re
     let count = m + 1;
     // An array for the longest table: no call takes memory.
     let mut weights = [0; LENGTH];
+    // V(0, 0), which costs less here than as a column of its own.
     weights[0] = table.coefficients[0] as i64;
     table.extend_to(&mut weights, 1, count);
     let chosen = weights;
