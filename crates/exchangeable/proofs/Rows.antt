@@ -12,9 +12,9 @@ use Rattle.exchangeable.proofs.Columns.{all_small, choose_small}
 use Rattle.exchangeable.proofs.Differences.{at, diff, value_is, diff_nonneg, diff_falls, events_nonneg}
 
 module _ (u : List ℕ) (ws : List ℤ) (n : ℕ) (last : n ≡ top u) (long : n < length ws)
-    (is : (k : ℕ) → k < n + 1 → get_or ws k (pos 0) ≡ value u k n) where
+    (is : (k : ℕ) → k < n + 1 → get_or ws k (pos 0) ≡ value u k (n + 1 - 1)) where
   read : (k : ℕ) → k ≤ top u → get_or (take (n + 1) ws) k (pos 0) ≡ value u k (top u)
-  read k l = get_or-take (n + 1) ws k (pos 0) (omega arith) ∙ is k (omega arith) ∙ ap (value u k) last
+  read k l = get_or-take (n + 1) ws k (pos 0) (omega arith) ∙ is k (omega arith) ∙ ap (value u k) (omega arith)
 
   front : length (take (n + 1) ws) ≡ n + 1
   front = length-take-le (n + 1) ws (omega arith)
@@ -57,32 +57,31 @@ module _ (u : List ℕ) (a : Admitted u) (last : (k : ℕ) → k ≤ top u → p
       below : (z : ℤ) (b : ℕ) → z ≤ℤ pos b → b ≤ 2 ^ 30 → z ≤ℤ pos (2 ^ 30)
       below z b p q = omega (arith, ints)
 
--- the factors and values of the row for m, read at the front of their arrays
-module _ (u : List ℕ) (m : ℕ) (fs : List ℕ) (vs : List ℤ) (small : m < 33)
-    (factors : (k : ℕ) → k < 33 → get_or fs k 0 ≡ choose m k)
-    (values : (k : ℕ) → k < m + 1 → get_or vs k (pos 0) ≡ value u k m) where
-  factor : (k : ℕ) → k < m + 1 → get_or (take (m + 1) fs) k 0 ≡ choose m k
-  factor k l = get_or-take (m + 1) fs k 0 l ∙ factors k (omega arith)
+-- the factors and values of the row for m, where the factors stand in a slice of m + 1
+module _ (u : List ℕ) (m : ℕ) (front fs : List ℕ) (vs : List ℤ) (all : length front ≡ m + 1) (same : length fs ≡ length front)
+    (factors : (k : ℕ) → k < length front → get_or fs k 0 ≡ choose (length front - 1) k)
+    (values : (k : ℕ) → k < m + 1 → get_or vs k (pos 0) ≡ value u k (m + 1 - 1)) where
+  factor : (k : ℕ) → k < length fs → get_or fs k 0 ≡ choose m k
+  factor k l = factors k (omega arith) ∙ ap (λ n. choose n k) (omega arith)
 
-  worth : (k : ℕ) → k < m + 1 → get_or (take (m + 1) vs) k (pos 0) ≡ value u k m
-  worth k l = get_or-take (m + 1) vs k (pos 0) l ∙ values k l
+  worth : (k : ℕ) → k < length fs → get_or vs k (pos 0) ≡ value u k m
+  worth k l = values k (omega arith) ∙ ap (value u k) (omega arith)
 
-  pub sizes : Admitted u → m ≤ top u → ((k : ℕ) → k ≤ top u → pos 0 ≤ℤ value u k (top u)) → (k : ℕ) → k < m + 1
-      → (get_or (take (m + 1) fs) k 0 ≤ 2 ^ 32)
-      × (pos 0 ≤ℤ get_or (take (m + 1) vs) k (pos 0)) × (get_or (take (m + 1) vs) k (pos 0) ≤ℤ pos (2 ^ 30))
+  pub sizes : Admitted u → m ≤ top u → ((k : ℕ) → k ≤ top u → pos 0 ≤ℤ value u k (top u)) → (k : ℕ) → k < length fs
+      → (get_or fs k 0 ≤ 2 ^ 31) × (pos 0 ≤ℤ get_or vs k (pos 0)) × (get_or vs k (pos 0) ≤ℤ pos (2 ^ 30))
   sizes a le last k l =
       rw (factor k l, worth k l)
-      (choose_small m k (omega arith), value_nonneg u a last k m (omega arith) le, value_small u a last k m (omega arith) le)
+      (choose_small m k (omega (arith, a.0.1)), value_nonneg u a last k m (omega arith) le, value_small u a last k m (omega arith) le)
 
-  pub row_from : (after rest : List ℕ) → length after ≡ m + 1
-      → ((k : ℕ) → k < m + 1 → pos (get_or after k 0) ≡ pos (get_or (take (m + 1) fs) k 0) *ℤ get_or (take (m + 1) vs) k (pos 0))
+  pub row_from : (after rest : List ℕ) → length after ≡ length fs
+      → ((k : ℕ) → k < length fs → pos (get_or after k 0) ≡ pos (get_or fs k 0) *ℤ get_or vs k (pos 0))
       → (map pos (take (m + 1) (after ++ rest)) ≡ row u m) × (drop (m + 1) (after ++ rest) ≡ rest)
   row_from after rest long h = (
-    ap (map pos) (take_at after rest (m + 1) long)
+    ap (map pos) (take_at after rest (m + 1) (omega arith))
         ∙ fill_by_all (λ k. pos (choose m k) *ℤ value u k m) (map pos after) (suc m) (pos 0)
-        (length-map after pos ∙ long ∙ omega arith)
+        (length-map after pos ∙ omega arith)
         (λ k l.
         get_or-map pos after k 0 (pos 0) (omega arith)
         ∙ h k (omega arith) ∙ ap₂ ◌*ℤ◌ (ap pos (factor k (omega arith))) (worth k (omega arith))),
-    drop_at after rest (m + 1) long,
+    drop_at after rest (m + 1) (omega arith),
   )

@@ -94,66 +94,67 @@ impl<'a> Table<'a> {
         ensures { (k : ℕ) → k < m + 1
             → slice_index_or values.new k (pos 0) ≡ value self.now.coefficients.now k m }
     {
-        values[m] = self.coefficients[m] as i64;
+        let mut above = self.coefficients[m] as i64;
+        values[m] = above;
         // By index: a proof knows nothing of what is written through a reversed iterator.
         for k in (0..m).rev() {
-            values[k] -= values[k + 1];
+            above = values[k] - above;
+            values[k] = above;
         }
     }
 
-    /// V(k, m) at each place k up to m.
-    // An array for the longest table: no heap is used.
-    fn column(&self, m: usize) -> [i64; LENGTH]
-        requires { m ≤ top self.now.coefficients.now }
-        ensures { (k : ℕ) → k < m + 1 → slice_index_or result k (pos 0) ≡ value self.now.coefficients.now k m }
+    /// From V(k, from − 1) for each k below `from` to V(k, to − 1) for each k below `to`, in place.
+    fn extend_to(&self, values: &mut [i64], from: usize, to: usize)
+        requires within { (from ≤ to) × (to ≤ length self.now.coefficients.now) × (to ≤ length values.old) }
+        requires before { (k : ℕ) → k < from
+            → slice_index_or values.old k (pos 0) ≡ value self.now.coefficients.now k (from - 1) }
+        ensures { (k : ℕ) → k < to
+            → slice_index_or values.new k (pos 0) ≡ value self.now.coefficients.now k (to - 1) }
     {
-        let mut values = [0; LENGTH];
-        for i in 0..m + 1 {
-            self.extend(&mut values, i);
+        for m in from..to {
+            self.extend(values, m);
         }
-        values
     }
 }
 
-/// From a row of Pascal's triangle to the next: each entry takes on the one before it.
-fn next_binomials(row: &mut [u64])
-    requires { (k : ℕ) → k < length row.old → slice_index row.old k ≤ 2 ^ 32 }
-    ensures { (k : ℕ) → k < length row.old
-        → slice_index row.new k ≡ slice_index (0 ∷ row.old) k + slice_index row.old k }
+/// From a row of Pascal's triangle to the next, between their ones: each entry takes on the one before it.
+fn next_binomials(inner: &mut [u64])
+    requires { (k : ℕ) → k < length inner.old → slice_index inner.old k ≤ 2 ^ 31 }
+    ensures { (k : ℕ) → k < length inner.old
+        → slice_index inner.new k ≡ slice_index (1 ∷ inner.old) k + slice_index inner.old k }
 {
-    let mut before = 0;
-    for entry in row.iter_mut() {
+    let mut before = 1;
+    for entry in inner.iter_mut() {
         let old = *entry;
         *entry = before + old;
         before = old;
     }
 }
 
-/// C(m, k) at each place k.
-// An array for the longest row: no heap is used.
-fn binomials(m: usize) -> [u64; LENGTH]
-    requires { m < 33 }
-    ensures { (k : ℕ) → k < 33 → slice_index result k ≡ choose m k }
+/// Writes C(m, k) at each place k, for the last place m.
+fn binomials(row: &mut [u64])
+    requires { (0 < length row.old) × (length row.old ≤ 33) }
+    ensures { (k : ℕ) → k < length row.old → slice_index row.new k ≡ choose (length row.old - 1) k }
 {
-    let mut row = [0; LENGTH];
     row[0] = 1;
-    for _ in 0..m {
-        next_binomials(&mut row);
+    for n in 1..row.len() {
+        row[n] = 1;
+        next_binomials(&mut row[1..n]);
     }
-    row
 }
 
-/// Writes the products of the factors and values.
-fn multiply(out: &mut [u64], factors: &[u64], values: &[i64])
-    requires lengths { (length factors.now ≡ length out.old) × (length values.now ≡ length out.old) }
-    requires sizes { (k : ℕ) → k < length out.old → (slice_index factors.now k ≤ 2 ^ 32)
+/// Multiplies each entry by its value.
+fn multiply(row: &mut [u64], values: &[i64])
+    requires lengths { length row.old ≤ length values.now }
+    requires sizes { (k : ℕ) → k < length row.old → (slice_index row.old k ≤ 2 ^ 31)
         × (pos 0 ≤ℤ slice_index_or values.now k (pos 0)) × (slice_index_or values.now k (pos 0) ≤ℤ pos (2 ^ 30)) }
-    ensures { (k : ℕ) → k < length out.old
-        → pos (slice_index out.new k) ≡ pos (slice_index factors.now k) *ℤ slice_index_or values.now k (pos 0) }
+    ensures { (k : ℕ) → k < length row.old
+        → pos (slice_index row.new k) ≡ pos (slice_index row.old k) *ℤ slice_index_or values.now k (pos 0) }
 {
     // No zip: a proof knows nothing of what is written through one.
-    for (k, entry) in out.iter_mut().enumerate() {
-        *entry = factors[k] * values[k] as u64;
+    for (k, entry) in row.iter_mut().enumerate() {
+        // Both fit 32 bits, and several such products are one instruction.
+        *entry = (*entry as u32) as u64 * (values[k] as u32) as u64;
     }
 }
 
@@ -172,15 +173,19 @@ pub fn exchangeable_row(table: &[u32], m: u32, out: &mut [u64]) -> Result<(), Re
     if m >= out.len() {
         return Err(Refusal::ShortOutput);
     }
-    let weights = table.column(top);
+    let count = m + 1;
+    // An array for the longest table: no heap is used.
+    let mut weights = [0; LENGTH];
+    // V(0, 0), which costs less here than as a column of its own.
+    weights[0] = table.coefficients[0] as i64;
+    table.extend_to(&mut weights, 1, count);
+    let chosen = weights;
+    table.extend_to(&mut weights, count, top + 1);
     if let Some(place) = weights[..top + 1].iter().position(|w| *w < 0) {
         return Err(Refusal::Impossible { place });
     }
-    let count = m + 1;
-    multiply(
-        &mut out[..count],
-        &binomials(m)[..count],
-        &table.column(m)[..count],
-    );
+    let row = &mut out[..count];
+    binomials(row);
+    multiply(row, &chosen);
     Ok(())
 }

@@ -13,33 +13,33 @@ returns-in_err-table c =
 pub returns-in-Some : goal.returns-in-Some
 returns-in-Some c =
     let t = c.in_ok-table.table in
-    let ws = take (c.top-top.result + 1) c.column-weights.result in
+    let ws = take (c.top-top.result + 1) c.extend_to-2.new.values in
     let h : (c.in-Some.place < length ws) × (get_or ws c.in-Some.place (pos 0) <ℤ pos 0)
     × ((i : ℕ) → i < c.in-Some.place → pos 0 ≤ℤ get_or ws i (pos 0)) = search rules in
     let r =
-    some_below t.coefficients.now c.column-weights.result _ c.top-top.ensures (omega arith) c.column-weights.ensures c.args.m c.args.out.now
+    some_below t.coefficients.now c.extend_to-2.new.values _ c.top-top.ensures (omega arith) c.extend_to-2.ensures c.args.m c.args.out.now
     c.in-Some.place t.admitted (omega arith) (omega arith) h in
     (rw c.in_ok-table.ensures at r, refl)
 
 pub multiply-requires-clause-sizes : goal.multiply-requires-clause-sizes
 multiply-requires-clause-sizes c =
     let t = c.in_ok-table.table in
-    let ws = take (c.top-top.result + 1) c.column-weights.result in
+    let ws = take (c.top-top.result + 1) c.extend_to-2.new.values in
     let h : (k : ℕ) → k < length ws → pos 0 ≤ℤ get_or ws k (pos 0) = search rules in
-    let last = none_below t.coefficients.now c.column-weights.result _ c.top-top.ensures (omega arith) c.column-weights.ensures h in
-    λ k l.
-    sizes t.coefficients.now c.args.m c.binomials.result c.column.result (omega arith) c.binomials.ensures c.column.ensures
-    t.admitted (omega arith) last k (omega (arith, length-take (c.args.m + 1) c.args.out.now))
+    let last = none_below t.coefficients.now c.extend_to-2.new.values _ c.top-top.ensures (omega arith) c.extend_to-2.ensures h in
+    sizes t.coefficients.now c.args.m (take (c.args.m + 1) c.args.out.now) c.binomials.new.row c.extend_to.new.values
+    (omega (arith, length-take (c.args.m + 1) c.args.out.now)) c.binomials.auto.row c.binomials.ensures c.extend_to.ensures
+    t.admitted (omega arith) last
 
 pub returns : goal.returns
 returns c =
     let t = c.in_ok-table.table in
-    let ws = take (c.top-top.result + 1) c.column-weights.result in
+    let ws = take (c.top-top.result + 1) c.extend_to-2.new.values in
     let h : (k : ℕ) → k < length ws → pos 0 ≤ℤ get_or ws k (pos 0) = search rules in
-    let last = none_below t.coefficients.now c.column-weights.result _ c.top-top.ensures (omega arith) c.column-weights.ensures h in
+    let last = none_below t.coefficients.now c.extend_to-2.new.values _ c.top-top.ensures (omega arith) c.extend_to-2.ensures h in
     let r =
-    row_from t.coefficients.now c.args.m c.binomials.result c.column.result (omega arith) c.binomials.ensures c.column.ensures
-    c.multiply.new.out (drop (c.args.m + 1) c.args.out.now) (omega (arith, length-take (c.args.m + 1) c.args.out.now))
-    (λ k l. c.multiply.ensures k (omega (arith, length-take (c.args.m + 1) c.args.out.now))) in
-    subst (λ u. Answered u c.args.m c.args.out.now (c.multiply.new.out ++ drop (c.args.m + 1) c.args.out.now)) c.in_ok-table.ensures
+    row_from t.coefficients.now c.args.m (take (c.args.m + 1) c.args.out.now) c.binomials.new.row c.extend_to.new.values
+    (omega (arith, length-take (c.args.m + 1) c.args.out.now)) c.binomials.auto.row c.binomials.ensures c.extend_to.ensures
+    c.multiply.new.row (drop (c.args.m + 1) c.args.out.now) c.multiply.auto.row c.multiply.ensures in
+    subst (λ u. Answered u c.args.m c.args.out.now (c.multiply.new.row ++ drop (c.args.m + 1) c.args.out.now)) c.in_ok-table.ensures
     (t.admitted, omega arith, omega arith, events_from t.coefficients.now last, r.0, r.1)
