@@ -1,7 +1,8 @@
 //! Run examples: a published table, and a long week of calls. Functions are small, since a long one takes long to prove.
 use figures::{Dual, Residue, Ring, Scenarios, Word};
 use money::money_row;
-use roster::{Cell, Refusal, Roster, Slip, close, take_into_use};
+use roster::{Cell, Refusal, Request, Roster, Slip, close, replay, take_into_use};
+use std::alloc::{AllocError, Global};
 use std::process::Abort;
 use std::test::Fail;
 
@@ -323,4 +324,29 @@ fn week_of_scenarios(rt: HostRuntime) -> Result<(), Fail> {
     let whole = u64::MAX;
     let _ = week::<Scenarios>(&rt, whole, &mut [stale(whole); 65], &mut [stale(whole); 65])?;
     Ok(())
+}
+
+/// How many outcomes so many calls have.
+fn replayed(
+    heap: Global,
+    slip: &Slip,
+    cells: &mut [Cell<u64>],
+    calls: usize,
+) -> Result<usize, AllocError> {
+    let mut requests = Vec::new(heap);
+    requests.resize_with(calls, || Request::Clear)?;
+    Ok(replay(heap, slip, cells, Word::from_plain(10), requests)?.len())
+}
+
+/// No contract can say that there is memory: a `replay` that always lacks it would keep its promise.
+#[test]
+fn a_list_of_calls_is_made(rt: HostRuntime) {
+    let mut cells = [stale(1); 3];
+    let slip = take_into_use(&cells);
+    let outcomes = replayed(rt.alloc(), &slip, &mut cells, 2);
+    match close::<Word>(&mut cells, slip) {
+        Ok(()) => {}
+        Err(_) => unreachable(),
+    }
+    assert_eq!(rt; outcomes.ok(), Some(2));
 }
