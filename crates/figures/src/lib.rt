@@ -9,9 +9,11 @@ mod duals;
 mod kinds;
 mod residues;
 mod scenario_bits;
+mod theorems;
 mod words;
 
 pub use kinds::{Dual, Residue, Scenarios, Word};
+pub use theorems::kinds_are_as_defined;
 
 /// A kind of figures. Each operation is a fixed function and none refuses; there is no order and no division.
 pub trait Ring: Copy {

@@ -1,5 +1,6 @@
 -- What a roster replies to a question, told from the ledger that its cells hold. Assumes nothing.
 use Rattle.std.specs.Prelude.{◌≡◌, ℕ, cond, ◌&&◌, List, length, take, drop, Ok, Err, Result, ◌==◌, nat_le}
+use Rattle.std.specs.Int.Digits.{AllBelowBase}
 use Rattle.algebra.specs.Ring.{Ops}
 use Rattle.roster.specs.Cells as cells
 use Rattle.roster.specs.Ledger.{Ledger, exactly_of, at_least_of}
@@ -37,8 +38,9 @@ module _ {F P : Type 0} (o : Ops F) (plain : F → P) (kind : ℕ) (bits : F →
       (cond (question == 2) (counted kind 2 (length l.lives) k (bits (at_least_of o plain l k)))
       (lives_only kind (length l.lives)))
 
-  -- The output of a reply that was not refused: its first 16 bytes are the record of the answer of whatever ledger the cells
-  -- hold, and the bytes after them are as they were.
+  -- The output of a reply that was not refused: its first 16 entries are bytes, and the record of the answer of whatever ledger the
+  -- cells hold; the bytes after them are as they were.
   pub record Written (before : List (Cell P)) (question k : ℕ) (old new : List ℕ) : Type 0 where
     pub answer : (size : ℕ) (l : Ledger F) → cells.Holds o plain size l before → Holds (take 16 new) (fields_for l question k)
+    pub octets : AllBelowBase 256 (take 16 new)
     pub rest : drop 16 new ≡ drop 16 old

@@ -1,5 +1,8 @@
 //! Promises that are no one call's: over runs, and what the questions' sums come to.
-ghost use Rattle.std.specs.Prelude.{ℕ, ◌≤◌, List, length};
+ghost use Rattle.std.specs.Prelude.{◌≡◌, ℕ, ◌≤◌, List, length};
+ghost use Rattle.algebra.specs.Patterns.{at_least};
+ghost use Rattle.algebra.specs.Ring.{semi};
+ghost use Rattle.algebra.specs.Sums.{against, power};
 ghost use Rattle.algebra.specs.Waring.{WaringExactly, WaringAtLeast};
 ghost use Rattle.roster.specs.Runs.{ChainsFollow};
 
@@ -11,8 +14,10 @@ pub fn chains_follow_the_ledger<F: Ring>()
     ensures { ChainsFollow F.Ring.ops F.Ring.plain }
 {}
 
-/// Waring's two sums, over figures of any kind: exactly k and at least k are alternating sums of the kept sums.
+/// Waring's two sums, over figures of any kind: exactly k and at least k are alternating sums of the kept sums. At least 0,
+/// which the second leaves out, is a power of the whole.
 pub fn waring_sums_hold<F: Ring>()
     ensures exactly { (d : F) (ps : List F) (k : ℕ) → k ≤ length ps → WaringExactly F.Ring.ops d ps k }
     ensures at_least { (d : F) (ps : List F) (k : ℕ) → 1 ≤ k → k ≤ length ps → WaringAtLeast F.Ring.ops d ps k }
+    ensures at_least_none { (d : F) (ps : List F) → at_least (semi F.Ring.ops) 0 (against F.Ring.ops d ps) ≡ power F.Ring.ops d (length ps) }
 {}
