@@ -12,7 +12,7 @@ use Rattle.figures.specs.declared.kinds.Residue.{Residue}
 use Rattle.figures.specs.declared.kinds.Scenarios.{Scenarios}
 use Rattle.figures.specs.declared.kinds.Dual.{Dual}
 use Rattle.roster.specs.Ledger.{Call, Join, Leave, Exactly, AtLeast, Composed, Answer, Done, Refused, Figure, Table, RefusedTable, opened, answers}
-use Rattle.money.specs.Money.{money_row}
+use Rattle.money.specs.Money.{money_row, factor_of}
 use Rattle.exchangeable.specs.Events.{top, value, row}
 
 -- An answer as numbers: nothing where it was done, a refusal's number, a figure's numbers, or a table's.
@@ -69,6 +69,7 @@ computed =
     ++ (on_words (2 ^ 32) (Join 1 (words.word (2 ^ 32)) ∷ Join 2 (words.word (2 ^ 32)) ∷ Exactly 2 ∷ [])
     ++ (on_residues 1 (Join 1 (residues.residue (2 ^ 30)) ∷ Join 2 (residues.residue 2) ∷ Exactly 2 ∷ [])
     ++ (money_row (1 ∷ 1 ∷ []) ∷ money_row (900000000 ∷ 800000000 ∷ 500000000 ∷ [])
+    ∷ (factor_of (900000000 ∷ 800000000 ∷ 500000000 ∷ []) 2 ∷ [])
     ∷ tabled (8 ∷ 4 ∷ 2 ∷ 1 ∷ []) 3 ∷ tabled (4 ∷ 2 ∷ 0 ∷ []) 2
     ∷ tabled (4 ∷ 3 ∷ 1 ∷ []) 2 ∷ tabled (4 ∷ 1 ∷ 2 ∷ []) 2 ∷ []))))))
 
@@ -87,8 +88,8 @@ listed =
     ∷ [] ∷ [] ∷ (0 ∷ [])
     -- residues, whole one, lives 2^30 and 2: exactly 2 is 1
     ∷ [] ∷ [] ∷ (1 ∷ [])
-    -- money rows
-    ∷ (999999998 ∷ 1 ∷ 1 ∷ []) ∷ (10000000 ∷ 140000000 ∷ 490000000 ∷ 360000000 ∷ [])
+    -- money rows, and the factor for 2 of the second
+    ∷ (999999998 ∷ 1 ∷ 1 ∷ []) ∷ (10000000 ∷ 140000000 ∷ 490000000 ∷ 360000000 ∷ []) ∷ (850000000 ∷ [])
     -- two tables without a negative weight, with their rows, and two whose first negative weight is at 0 and at 1
     ∷ (4 ∷ 1 ∷ 3 ∷ 3 ∷ 1 ∷ []) ∷ (3 ∷ 0 ∷ 4 ∷ 0 ∷ [])
     ∷ (0 ∷ 1 ∷ 4 ∷ 1 ∷ []) ∷ (1 ∷ 4 ∷ 2 ∷ 2 ∷ [])

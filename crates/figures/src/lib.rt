@@ -57,7 +57,7 @@ pub trait Ring: Copy {
 
 /// A kind whose figures go into reply records.
 pub trait Packable: Ring {
-    /// The kind's number in a record, and how many bits its figures take there.
+    /// The kind's number in a record, and how many bits its figures have there.
     // A number, not an enum: it goes into the record as it is.
     const KIND: u8;
 

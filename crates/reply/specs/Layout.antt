@@ -25,7 +25,7 @@ fields_in bytes = record {
 abbrev pub spare_in : List ℕ → ℕ
 spare_in bytes = field bytes 25 39
 
--- 16 bytes that hold these fields, each at its bits, and a spare of zeros: this leaves no bit open.
+-- 16 bytes that hold these fields, each at its bits, and a spare of zeros: of bytes below 256 this leaves no bit open.
 pub record Holds (bytes : List ℕ) (f : Fields) : Type 0 where
   pub size : length bytes ≡ 16
   pub fields : fields_in bytes ≡ f

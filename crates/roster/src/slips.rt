@@ -4,7 +4,7 @@ ghost use Rattle.std.specs.Prelude.{◌≡◌, length, ◌==◌};
 use crate::cells::Cell;
 use crate::refusals::Refusal;
 
-/// It can be neither copied nor let go: closing its cells is the one way to be rid of it.
+/// It can be neither copied nor let go: closing is the one way to be rid of it, of cells as many as it is for.
 pub struct Slip {
     count: usize,
 }
