@@ -326,15 +326,28 @@ fn week_of_scenarios(rt: HostRuntime) -> Result<(), Fail> {
     Ok(())
 }
 
-/// How many outcomes so many calls have.
-fn replayed(
-    heap: Global,
-    slip: &Slip,
-    cells: &mut [Cell<u64>],
-    calls: usize,
-) -> Result<usize, AllocError> {
+/// One call of each sort; the table of the last row is too short.
+fn week_of_one(heap: Global) -> Result<Vec<Request<Word, u64>>, AllocError> {
+    let figure = Word::from_plain(9);
+    let mut table = Vec::new(heap);
+    table.resize_with(2, || 0)?;
     let mut requests = Vec::new(heap);
-    requests.resize_with(calls, || Request::Clear)?;
+    requests.push(Request::Join { number: 7, figure })?;
+    requests.push(Request::Change { number: 7, figure })?;
+    requests.push(Request::Exactly { k: 1 })?;
+    requests.push(Request::AtLeast { k: 1 })?;
+    requests.push(Request::Composed { table })?;
+    requests.push(Request::Triangle {
+        table: Vec::new(heap),
+    })?;
+    requests.push(Request::Leave { number: 7 })?;
+    requests.push(Request::Clear)?;
+    Ok(requests)
+}
+
+/// How many outcomes these calls have.
+fn replayed(heap: Global, slip: &Slip, cells: &mut [Cell<u64>]) -> Result<usize, AllocError> {
+    let requests = week_of_one(heap)?;
     Ok(replay(heap, slip, cells, Word::from_plain(10), requests)?.len())
 }
 
@@ -343,10 +356,10 @@ fn replayed(
 fn a_list_of_calls_is_made(rt: HostRuntime) {
     let mut cells = [stale(1); 3];
     let slip = take_into_use(&cells);
-    let outcomes = replayed(rt.alloc(), &slip, &mut cells, 2);
+    let outcomes = replayed(rt.alloc(), &slip, &mut cells);
     match close::<Word>(&mut cells, slip) {
         Ok(()) => {}
         Err(_) => unreachable(),
     }
-    assert_eq!(rt; outcomes.ok(), Some(2));
+    assert_eq!(rt; outcomes.ok(), Some(8));
 }
