@@ -11,3 +11,5 @@ pub fn examples_follow()
 
 #[cfg(test)]
 mod tests;
+#[cfg(test)]
+mod values;

@@ -76,6 +76,3 @@ pub trait Packable: Ring {
 
     ghost admitted: { (x : Self) → Admitted KIND WIDTH (bits x) };
 }
-
-#[cfg(test)]
-mod tests;

@@ -275,6 +275,3 @@ pub fn unpack_then_pack(bytes: &[u8]) -> Result<[u8; 16], Refusal>
     let f = unpack(bytes)?;
     Ok(repacked(f))
 }
-
-#[cfg(test)]
-mod tests;

@@ -1,5 +1,6 @@
-use super::*;
-use figures::Dual;
+//! Values from outside: the bytes of records, and the remainders of residues.
+use figures::{Dual, Packable, Residue, Ring, Scenarios, Word};
+use reply::{Count, Question, Record, Reply, pack};
 
 // An answered record as one number.
 fn packed<F: Packable>(question: Question, k: u8, lives: u8, figure: F) -> Option<u128> {
@@ -33,4 +34,18 @@ fn packed_bytes(rt: HostRuntime) {
         Some(0x4800c180_00000000_00000000_00000168)
     );
     assert_eq!(rt; packed(Question::Exactly, 65, 3, Word::from_plain(0)), None);
+}
+
+/// A residue is made of any 32-bit number, and is written as its remainder.
+#[test]
+fn residues_around_the_modulus(rt: HostRuntime) {
+    for (written, remainder) in [
+        (0, 0),
+        (2147483646, 2147483646),
+        (2147483647, 0),
+        (2147483648, 1),
+        (4294967295, 1),
+    ] {
+        assert_eq!(rt; Residue::from_plain(written).to_plain(), remainder);
+    }
 }
