@@ -1,12 +1,10 @@
 //! The commands that need no roster.
-use crate::answers::{filled, table_text};
-use crate::numbers::{short_number, short_numbers, size};
-use crate::text::{fields_text, hex_bytes};
-use crate::unanswered::Unanswered::{self, NotUnderstood};
 use exchangeable::exchangeable_row;
 use money::{factor, money_row};
 use reply::unpack;
 use std::alloc::Global;
+use text::Unanswered::{self, NotUnderstood};
+use text::{fields_text, filled, hex_bytes, short_number, short_numbers, size, table_text};
 
 pub fn obey(heap: Global, words: &[&[u8]]) -> Result<String, Unanswered> {
     match words {

@@ -2,13 +2,10 @@
 ghost use Rattle.std.specs.Prelude.{◌≡◌, IfErr};
 ghost use Rattle.std.specs.IoError.{error_kind};
 
-use crate::answers::done;
-use crate::text::echo;
-use crate::unanswered::Unanswered;
-use crate::words::Lines;
 use std::alloc::{AllocError, Global};
 use std::fmt::Display;
 use std::io::{self, BufWriter, ErrorKind, Stdout, Write};
+use text::{Lines, Unanswered, done, echo};
 
 /// What is read and what is printed.
 #[derive(Drop)]

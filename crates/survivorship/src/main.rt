@@ -1,22 +1,16 @@
 //! Reads commands, one to a line, and prints what comes of each.
 #![tactic(auto)]
 
-mod answers;
 mod commands;
 mod console;
-mod numbers;
 mod sessions;
-mod text;
-mod typed;
-mod unanswered;
-mod words;
 
 use console::{Console, Printer};
 use sessions::run;
 use std::io::Read;
 use std::process::ExitCode;
 use std::{env, fs};
-use words::Lines;
+use text::Lines;
 
 /// The file that the command line names, or standard input; none where that is refused, which is said on standard error.
 fn input(rt: &HostRuntime) -> anyhow::Result<Option<Vec<u8>>> {

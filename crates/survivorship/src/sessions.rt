@@ -1,18 +1,15 @@
 //! Commands to a roster, from `open` to `close` or the end of the input.
 ghost use Rattle.std.specs.Prelude.{◌≤◌};
-ghost use Rattle.survivorship.specs.Reading.{left};
+ghost use Rattle.text.specs.Reading.{left};
 
-use crate::answers::{done, filled, table_text};
 use crate::commands::obey;
 use crate::console::Console;
-use crate::numbers::{short_number, size};
-use crate::text::Hex;
-use crate::typed::Typed;
-use crate::unanswered::Unanswered::{self, NotUnderstood};
 use figures::{Dual, Packable, Residue, Ring, Scenarios, Word};
 use reply::asked;
 use roster::{Cell, Roster, close, take_into_use};
 use std::alloc::Global;
+use text::Unanswered::{self, NotUnderstood};
+use text::{Hex, Typed, done, filled, short_number, size, table_text};
 
 /// Obeys every line.
 pub fn run(console: &mut Console) -> anyhow::Result<()> {

@@ -1,5 +1,5 @@
 use Rattle.std.proofs.Common.{◌≤◌}
-use Rattle.survivorship.specs.Reading.{left}
+use Rattle.text.specs.Reading.{left}
 use Rattle.survivorship.proofs.sessions.converse.Given as goal
 
 abbrev pub invariant-loop-words : goal.invariant-loop-words

@@ -1,4 +1,4 @@
-use Rattle.survivorship.specs.Reading.{left}
+use Rattle.text.specs.Reading.{left}
 use Rattle.survivorship.proofs.sessions.run.Given as goal
 
 abbrev pub decreases-loop-words : goal.decreases-loop-words

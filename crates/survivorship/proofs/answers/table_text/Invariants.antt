@@ -1,6 +1,0 @@
-use Rattle.std.proofs.Common.{◌≡◌, ◌++◌, map, drop, string_bytes}
-use Rattle.survivorship.specs.Text.{others, spaced}
-use Rattle.survivorship.proofs.answers.table_text.Given as goal
-
-abbrev pub invariant-loop-entry : goal.invariant-loop-entry
-invariant-loop-entry g l = string_bytes l.text ++ others (map g.P.Typed.text (drop l.entry-index l.rest)) ≡ spaced (map g.P.Typed.text l.table)

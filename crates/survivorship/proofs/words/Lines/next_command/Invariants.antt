@@ -1,9 +1,0 @@
-use Rattle.std.proofs.Common.{◌≤◌}
-use Rattle.survivorship.specs.Reading.{left}
-use Rattle.survivorship.proofs.words.Lines.next_command.Given as goal
-
-abbrev pub invariant-loop-line : goal.invariant-loop-line
-invariant-loop-line l = left l.self ≤ left l.initial.self
-
-abbrev pub decreases-loop-line : goal.decreases-loop-line
-decreases-loop-line l = left l.self

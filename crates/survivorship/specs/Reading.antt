@@ -1,6 +1,0 @@
--- How much is still to be read. Assumes nothing.
-use Rattle.std.specs.Prelude.{ℕ, length}
-use Rattle.survivorship.specs.declared.words.Lines.{Lines}
-
-abbrev pub left : Lines → ℕ
-left lines = length lines.rest.now

@@ -1,0 +1,38 @@
+//! The texts of what is granted.
+ghost use Rattle.std.specs.Prelude.{◌≡◌, map, replicate, IfOk, string_bytes, codes};
+ghost use Rattle.text.specs.Text.{spaced};
+
+use crate::typed::Typed;
+use std::alloc::{AllocError, Global};
+
+pub fn done(heap: Global) -> Result<String, AllocError>
+    ensures { IfOk result (λ s. string_bytes s ≡ codes "done") }
+{
+    String::from_str(heap, "done")
+}
+
+/// The entries with a blank between.
+// No `join`: it wants all the texts in memory first.
+pub fn table_text<P: Typed>(heap: Global, table: &[P]) -> Result<String, AllocError>
+    ensures { IfOk result (λ s. string_bytes s ≡ spaced (map P.Typed.text table.now)) }
+{
+    let [first, rest @ ..] = table else {
+        return Ok(String::new(heap));
+    };
+    let mut text = first.show(heap)?;
+    for entry in rest {
+        text.push_str(" ")?;
+        text.push_str(&entry.show(heap)?)?;
+    }
+    Ok(text)
+}
+
+/// A table of so many entries, all alike.
+pub fn filled<P: Copy>(heap: Global, value: P, count: usize) -> Result<Vec<P>, AllocError>
+    ensures { IfOk result (λ t. t.items ≡ replicate count value) }
+{
+    // Not `vec!`: it clones, and a proof does not know what a `Copy` type's clone is.
+    let mut table = Vec::new(heap);
+    table.resize_with(count, || value)?;
+    Ok(table)
+}

@@ -1,0 +1,16 @@
+//! What the program reads and prints, as functions: words, numbers, figures, bytes, records and refusals.
+#![tactic(auto)]
+
+mod answers;
+mod bytes;
+mod numbers;
+mod typed;
+mod unanswered;
+mod words;
+
+pub use answers::{done, filled, table_text};
+pub use bytes::{Hex, echo, fields_text, hex_bytes};
+pub use numbers::{short_number, short_numbers, size};
+pub use typed::Typed;
+pub use unanswered::{Refusal, Unanswered};
+pub use words::Lines;
