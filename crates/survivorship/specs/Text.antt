@@ -101,3 +101,21 @@ others (t ∷ ts) = 32 ∷ (t ++ others ts)
 abbrev pub spaced : List (List ℕ) → List ℕ
 spaced [] = []
 spaced (t ∷ ts) = t ++ others ts
+
+-- A line ends before the first newline, or with the input; the other lines begin behind that newline.
+abbrev pub newline_at : List ℕ → Option ℕ
+newline_at input = position (λ c. c == 10) input
+
+abbrev pub line_to : List ℕ → Option ℕ → List ℕ
+line_to input None = input
+line_to input (Some i) = take i input
+
+abbrev pub lines_from : List ℕ → Option ℕ → List ℕ
+lines_from input None = []
+lines_from input (Some i) = drop (i + 1) input
+
+abbrev pub first_line : List ℕ → List ℕ
+first_line input = line_to input (newline_at input)
+
+abbrev pub other_lines : List ℕ → List ℕ
+other_lines input = lines_from input (newline_at input)

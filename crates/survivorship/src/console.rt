@@ -1,6 +1,7 @@
 //! The lines that are read, and what is printed for each.
-ghost use Rattle.std.specs.Prelude.{◌≡◌, IfErr};
+ghost use Rattle.std.specs.Prelude.{◌≡◌, true, ◌&&◌, IfOk, IfErr, OnOk};
 ghost use Rattle.std.specs.IoError.{error_kind};
+ghost use Rattle.survivorship.specs.Understood.{is_understood};
 
 use crate::answers::done;
 use crate::text::echo;
@@ -28,7 +29,8 @@ pub struct Printer {
 impl Printer {
     /// Where there is no memory for the buffer, nothing was printed.
     pub fn new(heap: Global, out: Stdout) -> io::Result<Printer>
-        ensures { IfErr result (λ e. error_kind e ≡ ErrorKind.OutOfMemory) }
+        ensures no_memory { IfErr result (λ e. error_kind e ≡ ErrorKind.OutOfMemory) }
+        ensures understood { IfOk result (λ p. p.understood ≡ true) }
     {
         Ok(Printer {
             heap,
@@ -42,7 +44,9 @@ impl Printer {
         &mut self,
         words: &[&[u8]],
         answer: Result<String, Unanswered>,
-    ) -> anyhow::Result<()> {
+    ) -> anyhow::Result<()>
+        ensures { OnOk result (self.new.understood ≡ (is_understood answer && self.old.understood)) }
+    {
         match answer {
             Ok(text) => self.line(words, &text),
             Err(Unanswered::Refused(refusal)) => self.line(words, &refusal),
@@ -54,13 +58,17 @@ impl Printer {
         }
     }
 
-    pub fn print_done(&mut self, words: &[&[u8]]) -> anyhow::Result<()> {
+    pub fn print_done(&mut self, words: &[&[u8]]) -> anyhow::Result<()>
+        ensures { OnOk result (self.new.understood ≡ self.old.understood) }
+    {
         let answer = done(self.heap)?;
         self.print(words, Ok(answer))
     }
 
     /// A command's words, an arrow and what came of it.
-    fn line(&mut self, words: &[&[u8]], answer: &impl Display) -> anyhow::Result<()> {
+    fn line(&mut self, words: &[&[u8]], answer: &impl Display) -> anyhow::Result<()>
+        ensures { self.new.understood ≡ self.old.understood }
+    {
         let mut echoed = Vec::new(self.heap);
         for word in words {
             echoed.extend(word.iter().map(|b| echo(*b)))?;
@@ -72,7 +80,9 @@ impl Printer {
     }
 
     /// Prints what is still held back, and tells whether every line was understood.
-    pub fn finish(mut self) -> anyhow::Result<bool> {
+    pub fn finish(mut self) -> anyhow::Result<bool>
+        ensures { IfOk result (λ b. b ≡ self.understood) }
+    {
         self.out.flush()?;
         Ok(self.understood)
     }

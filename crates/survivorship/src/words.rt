@@ -1,6 +1,7 @@
 //! Lines and words of the input.
-ghost use Rattle.std.specs.Prelude.{◌<◌, ◌≤◌, IfOk, OnSome};
+ghost use Rattle.std.specs.Prelude.{◌≡◌, ◌<◌, ◌≤◌, [], length, IfOk, IfSome, IfNone, OnSome};
 ghost use Rattle.survivorship.specs.Reading.{left};
+ghost use Rattle.survivorship.specs.Text.{newline_at, first_line, other_lines};
 
 use crate::text::is_blank;
 use std::alloc::{AllocError, Global};
@@ -20,7 +21,9 @@ pub struct Lines<'a> {
 }
 
 impl<'a> Lines<'a> {
-    pub fn new(heap: Global, input: &'a [u8]) -> Lines<'a> {
+    pub fn new(heap: Global, input: &'a [u8]) -> Lines<'a>
+        ensures { result.rest.now ≡ input.now }
+    {
         Lines { heap, rest: input }
     }
 
@@ -28,17 +31,20 @@ impl<'a> Lines<'a> {
     fn next_line(&mut self) -> Option<&'a [u8]>
         ensures onward { left self.new ≤ left self.old }
         ensures read { OnSome result (left self.new < left self.old) }
+        ensures line { IfSome result (λ l. l.now ≡ first_line self.old.rest.now) }
+        ensures rest { self.new.rest.now ≡ other_lines self.old.rest.now }
+        ensures end { IfNone result (self.old.rest.now ≡ []) }
     {
         if self.rest.is_empty() {
             return None;
         }
         let text = self.rest;
-        let (line, rest) = match text.iter().position(|b| *b == b'\n') {
-            Some(end) => (&text[..end], &text[end + 1..]),
-            None => (text, &text[text.len()..]),
+        let Some(end) = newline(text) else {
+            self.rest = &text[text.len()..];
+            return Some(text);
         };
-        self.rest = rest;
-        Some(line)
+        self.rest = &text[end + 1..];
+        Some(&text[..end])
     }
 
     /// The words of the next line that has any and is no comment.
@@ -54,4 +60,11 @@ impl<'a> Lines<'a> {
         }
         Ok(None)
     }
+}
+
+fn newline(text: &[u8]) -> Option<usize>
+    ensures value { result ≡ newline_at text.now }
+    ensures within { IfSome result (λ i. i < length text.now) }
+{
+    text.iter().position(|b| *b == b'\n')
 }
