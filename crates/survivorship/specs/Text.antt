@@ -1,5 +1,6 @@
 -- What the program reads and prints, as functions on bytes. Assumes nothing.
-use Rattle.std.specs.Prelude.{ℕ, ◌+◌, ◌-◌, ◌*◌, ◌/◌, ◌%◌, Bool, true, cond, ◌&&◌, ◌||◌, List, [], ◌∷◌, ◌++◌, map, take, drop, Some, None, codes, decimal, Option, ◌==◌, nat_le, position}
+use Rattle.std.specs.Prelude.{ℕ, ◌+◌, ◌-◌, ◌*◌, ◌/◌, ◌%◌, Bool, true, cond, not, length, ◌&&◌, ◌||◌, List, [], ◌∷◌, ◌++◌, map, take, drop, Some, None, codes, decimal, Option, ◌==◌, nat_le, position}
+use Rattle.std.specs.List.{filter, slice_split}
 use Rattle.std.specs.Int.Digits.{number_from_digits}
 use Rattle.reply.specs.declared.Fields.{Fields}
 use Rattle.figures.specs.declared.kinds.Dual.{Dual}
@@ -101,6 +102,10 @@ others (t ∷ ts) = 32 ∷ (t ++ others ts)
 abbrev pub spaced : List (List ℕ) → List ℕ
 spaced [] = []
 spaced (t ∷ ts) = t ++ others ts
+
+-- The words of a line are what stands between blanks.
+abbrev pub words_of : List ℕ → List (List ℕ)
+words_of line = filter (λ word. not (length word == 0)) (slice_split blank line)
 
 -- A line ends before the first newline, or with the input; the other lines begin behind that newline.
 abbrev pub newline_at : List ℕ → Option ℕ

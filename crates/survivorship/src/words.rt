@@ -1,13 +1,15 @@
 //! Lines and words of the input.
-ghost use Rattle.std.specs.Prelude.{◌≡◌, ◌<◌, ◌≤◌, [], length, IfOk, IfSome, IfNone, OnSome};
+ghost use Rattle.std.specs.Prelude.{◌≡◌, ◌<◌, ◌≤◌, [], map, length, IfOk, IfSome, IfNone, OnSome};
 ghost use Rattle.survivorship.specs.Reading.{left};
-ghost use Rattle.survivorship.specs.Text.{newline_at, first_line, other_lines};
+ghost use Rattle.survivorship.specs.Text.{words_of, newline_at, first_line, other_lines};
 
 use crate::text::is_blank;
 use std::alloc::{AllocError, Global};
 
 /// The words of a line: what stands between blanks.
-fn words<'a>(heap: Global, line: &'a [u8]) -> Result<Vec<&'a [u8]>, AllocError> {
+fn words<'a>(heap: Global, line: &'a [u8]) -> Result<Vec<&'a [u8]>, AllocError>
+    ensures { IfOk result (λ words. map (λ word. word.now) words.items ≡ words_of line.now) }
+{
     line.split(|b| is_blank(*b))
         .filter(|word| !word.is_empty())
         .collect(heap)
