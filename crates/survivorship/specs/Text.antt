@@ -1,5 +1,5 @@
 -- What the program reads and prints, as functions on bytes. Assumes nothing.
-use Rattle.std.specs.Prelude.{ℕ, ◌+◌, ◌-◌, ◌*◌, ◌/◌, ◌%◌, Bool, true, cond, not, length, ◌&&◌, ◌||◌, List, [], ◌∷◌, ◌++◌, map, take, drop, Some, None, codes, decimal, Option, ◌==◌, nat_le, position}
+use Rattle.std.specs.Prelude.{ℕ, ◌+◌, ◌-◌, ◌*◌, ◌/◌, ◌%◌, Bool, true, false, cond, not, length, ◌&&◌, ◌||◌, List, [], ◌∷◌, ◌++◌, map, take, drop, Some, None, codes, decimal, Option, ◌==◌, nat_le, position}
 use Rattle.std.specs.List.{filter, slice_split}
 use Rattle.std.specs.Int.Digits.{number_from_digits}
 use Rattle.reply.specs.declared.Fields.{Fields}
@@ -124,3 +124,13 @@ first_line input = line_to input (newline_at input)
 
 abbrev pub other_lines : List ℕ → List ℕ
 other_lines input = lines_from input (newline_at input)
+
+-- A line is a command where it has words, the first of which begins with no `#`.
+abbrev pub is_command : List (List ℕ) → Bool
+is_command [] = false
+is_command ([] ∷ words) = true
+is_command ((c ∷ cs) ∷ words) = not (c == 35)
+
+-- The words of each command, line by line.
+abbrev pub commands : List ℕ → List (List (List ℕ))
+commands input = filter is_command (map words_of (slice_split (λ c. c == 10) input))

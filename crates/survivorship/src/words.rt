@@ -1,7 +1,7 @@
 //! Lines and words of the input.
-ghost use Rattle.std.specs.Prelude.{◌≡◌, ◌<◌, ◌≤◌, [], map, length, IfOk, IfSome, IfNone, OnSome};
+ghost use Rattle.std.specs.Prelude.{◌≡◌, ◌<◌, ◌≤◌, [], ◌∷◌, map, length, IfOk, IfSome, IfNone, OnSome, MatchOption};
 ghost use Rattle.survivorship.specs.Reading.{left};
-ghost use Rattle.survivorship.specs.Text.{words_of, newline_at, first_line, other_lines};
+ghost use Rattle.survivorship.specs.Text.{words_of, newline_at, first_line, other_lines, is_command, commands};
 
 use crate::text::is_blank;
 use std::alloc::{AllocError, Global};
@@ -53,15 +53,22 @@ impl<'a> Lines<'a> {
     pub fn next_command(&mut self) -> Result<Option<Vec<&'a [u8]>>, AllocError>
         ensures onward { left self.new ≤ left self.old }
         ensures read { IfOk result (λ o. OnSome o (left self.new < left self.old)) }
+        ensures command { IfOk result (λ o. MatchOption o (commands self.old.rest.now ≡ []) (λ words. commands self.old.rest.now ≡ map (λ word. word.now) words.items ∷ commands self.new.rest.now)) }
     {
         while let Some(line) = self.next_line() {
             let words = words(self.heap, line)?;
-            if !matches!(words.as_slice(), [] | [[b'#', ..], ..]) {
+            if is_command(&words) {
                 return Ok(Some(words));
             }
         }
         Ok(None)
     }
+}
+
+fn is_command(words: &[&[u8]]) -> bool
+    ensures { result ≡ is_command (map (λ word. word.now) words.now) }
+{
+    !matches!(words, [] | [[b'#', ..], ..])
 }
 
 fn newline(text: &[u8]) -> Option<usize>
