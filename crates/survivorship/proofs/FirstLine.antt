@@ -1,7 +1,7 @@
 -- Taking the first line off the input. Assumes nothing.
-use Rattle.std.proofs.Common.{◌≡◌, ℕ, ◌+◌, ◌<◌, ◌≤◌, Bool, true, false, cond, List, ◌∷◌, map, length, Some, None, Option, sym, refl, ap, ap₂, ◌∙◌, ◌==◌, arith, ltb-true, ltb-false}
+use Rattle.std.proofs.Common.{◌≡◌, ℕ, ◌<◌, ◌≤◌, Bool, true, false, cond, List, ◌∷◌, map, length, Some, None, Option, sym, refl, ap, ap₂, ◌∙◌, ◌==◌, arith, ltb-true, ltb-false}
 use Rattle.std.specs.Prelude.{nat_lt}
-use Rattle.std.specs.List.{filter, slice_split, position_or_len}
+use Rattle.std.specs.List.{filter, position_or_len}
 use Rattle.std.proofs.lemmas.List.Splits.{slice_split_none, slice_split_first}
 use Rattle.std.proofs.lemmas.List.Sums.{fails_before_first}
 use Rattle.survivorship.specs.Text.{words_of, line_to, lines_from, first_line, other_lines, is_command, commands}

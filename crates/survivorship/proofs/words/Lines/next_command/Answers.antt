@@ -1,4 +1,4 @@
-use Rattle.std.proofs.Common.{◌≡◌, true, false, map, sym, ap, ◌∙◌, rules, arith}
+use Rattle.std.proofs.Common.{◌≡◌, true, false, map, sym, ap, ◌∙◌, rules}
 use Rattle.survivorship.proofs.FirstLine.{command_found, passed_over}
 use Rattle.survivorship.specs.Text.{words_of, is_command}
 use Rattle.survivorship.proofs.words.Lines.next_command.Goals as goal
