@@ -1,3 +1,4 @@
 pub mod Digits
 pub mod Decimal
 pub mod Spaces
+pub mod FirstLine
