@@ -7,7 +7,7 @@ use Rattle.algebra.specs.Patterns.{Life, exactly, at_least}
 use Rattle.algebra.specs.Sums.{power, multiple, elementary, against}
 use Rattle.algebra.proofs.Semiring.{laws_semi}
 use Rattle.algebra.proofs.Solver.{ring, made}
-use Rattle.algebra.proofs.Patterns.{exactly_zero_nil, exactly_suc_nil, exactly_zero_cons, exactly_suc_at, exactly_beyond, at_least_zero_nil, at_least_zero_cons}
+use Rattle.algebra.proofs.Patterns.{exactly_zero_nil, exactly_zero_cons, exactly_suc_at, exactly_beyond, at_least_zero_nil, at_least_zero_cons}
 
 module _ {F : Type 0} {o : Ops F} (L : Laws o) where
   pub multiple_plus : (a b : ℕ) (x : F) → multiple o (a + b) x ≡ o.plus (multiple o a x) (multiple o b x)
@@ -57,9 +57,6 @@ module _ {F : Type 0} {o : Ops F} (L : Laws o) where
   pub elementary_zero : (ps : List F) → elementary o 0 ps ≡ o.one
   elementary_zero [] = exactly_zero_nil (laws_semi L)
   elementary_zero (p ∷ ps) = exactly_zero_cons (laws_semi L) (record { alive = p; dead = o.one }) (chosen ps) ∙ ap (o.times o.one) (elementary_zero ps) ∙ L.times_one o.one
-
-  pub elementary_suc_nil : (r : ℕ) → elementary o (suc r) [] ≡ o.zero
-  elementary_suc_nil r = exactly_suc_nil (laws_semi L) r
 
   -- More chosen than there are.
   pub elementary_beyond : (r : ℕ) (ps : List F) → length ps < r → elementary o r ps ≡ o.zero

@@ -55,7 +55,7 @@ module _ {F : Type 0} {s : Semi F} (L : SemiLaws s) where
   pub exactly_zero_nil : exactly s 0 [] ≡ s.one
   exactly_zero_nil = L.plus_zero s.one
 
-  pub exactly_suc_nil : (k : ℕ) → exactly s (suc k) [] ≡ s.zero
+  exactly_suc_nil : (k : ℕ) → exactly s (suc k) [] ≡ s.zero
   exactly_suc_nil k = ap (λ b. total s (map (weight s []) (cond b ([] ∷ []) []))) (eqb-zero-suc k)
 
   pub at_least_zero_nil : at_least s 0 [] ≡ s.one

@@ -1,7 +1,6 @@
 -- The calls' links, from what was found and what was done. Assumes nothing.
-use Rattle.std.proofs.Common.{◌≡◌, ℕ, ◌-◌, ◌<◌, true, false, cond, eqb, ◌≢◌, List, ◌++◌, length, take, drop, replicate, Some, None, Option, sym, refl, ap, ◌∙◌, subst, ap₂, append-nil, arith, length-drop}
+use Rattle.std.proofs.Common.{◌≡◌, ℕ, ◌-◌, ◌<◌, true, false, cond, eqb, ◌≢◌, List, ◌++◌, length, take, replicate, Some, None, Option, sym, refl, ap, ◌∙◌, subst, ap₂, arith}
 use borrow.Rule.Slice.PartMut.{put_mid}
-use Rattle.std.proofs.lemmas.List.{drop_all}
 use Rattle.std.proofs.lemmas.Bool.{eq-eqb, ne_eqb, cond-true, cond-false}
 use Rattle.std.proofs.Math.Logic.{∥∥₁_map}
 use Rattle.algebra.specs.Ring.{Ops, Laws}
@@ -16,9 +15,10 @@ use Rattle.roster.specs.declared.cells.Cell.{Cell}
 use Rattle.roster.proofs.Laying.{length_held}
 use Rattle.roster.proofs.Places.{present_is}
 use Rattle.roster.proofs.Holding.{cleared_laid}
+use Rattle.roster.proofs.RowsTable.{written_from}
 
 module _ {F P : Type 0} (o : Ops F) (plain : F → P) where
-  pub refused_met : (call : Call F P) (cells : List (Cell P)) (n : ℕ) → ((size : ℕ) (l : Ledger F) → Holds o plain size l cells → Refused n ≡ answer o plain l call) → Met o plain call cells (Refused n) cells
+  refused_met : (call : Call F P) (cells : List (Cell P)) (n : ℕ) → ((size : ℕ) (l : Ledger F) → Holds o plain size l cells → Refused n ≡ answer o plain l call) → Met o plain call cells (Refused n) cells
   refused_met call cells n refused size l held =
       let e : Refused n ≡ answer o plain l call = refused size l held in
       let stay : cond (is_refused o plain (answer o plain l call)) l.lives (granted o plain l.lives call) ≡ l.lives = cond-true (is_refused o plain (answer o plain l call)) l.lives (granted o plain l.lives call) (ap (is_refused o plain) (sym e)) in
@@ -75,10 +75,6 @@ module _ {F P : Type 0} (o : Ops F) (plain : F → P) where
             work size l held c free some,
           ))
 
--- What a write to all but the first cell leaves.
-put_rest : {X : Type 0} (xs ys : List X) → put_mid 1 (length xs - 1) xs ys ≡ take 1 xs ++ ys
-put_rest xs ys = ap (λ zs. take 1 xs ++ (ys ++ zs)) (drop_all (length xs - 1) (drop 1 xs) (omega (arith, length-drop 1 xs))) ∙ ap (λ zs. take 1 xs ++ zs) (append-nil ys)
-
 module _ {F P : Type 0} {o : Ops F} (L : Laws o) (plain : F → P) where
   pub clear_done : (before rest : List (Cell P)) → 0 < length before → rest ≡ replicate (length before - 1) (zero_cell o plain) → Met o plain Clear before Done (put_mid 1 (length before - 1) before rest)
   clear_done before rest some is size l held =
@@ -88,7 +84,7 @@ module _ {F P : Type 0} {o : Ops F} (L : Laws o) (plain : F → P) where
           room = held.room;
           few = omega arith;
           numbered = tt;
-          are = put_rest before rest ∙ ap₂ (λ xs ys. take 1 xs ++ ys) held.are (is ∙ ap (λ i. replicate (i - 1) (zero_cell o plain)) sized)
+          are = written_from before rest 1 ∙ ap₂ (λ xs ys. take 1 xs ++ ys) held.are (is ∙ ap (λ i. replicate (i - 1) (zero_cell o plain)) sized)
               ∙ cleared_laid L plain size l.whole l.lives (omega arith);
         },
       )

@@ -8,7 +8,7 @@ abbrev pub ways_before : ℕ → ℕ → ℕ
 ways_before j zero = 0
 ways_before j (suc t) = ways j t
 
-pub ways_sum : (j t : ℕ) → ways_before (j + 1) t + ways j t ≡ ways (j + 1) t
+ways_sum : (j t : ℕ) → ways_before (j + 1) t + ways j t ≡ ways (j + 1) t
 ways_sum j zero = refl
 ways_sum j (suc t) = rw add-one (add_comm (ways (suc j) t) (ways j (suc t)))
 
