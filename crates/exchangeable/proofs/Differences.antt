@@ -38,7 +38,7 @@ value_step u k m h =
     ∙ ap₂ ◌-ℤ◌ (ap (λ t. diff (at u) t k) b ∙ sym (value_is u k (m - 1)))
     (ap (λ i. diff (at u) (m - (k + 1)) i) (sym s) ∙ sym (value_is u (k + 1) m))
 
--- ---- how large the differences grow
+-- how large the differences grow
 abbrev pub doubled : ℕ → ℕ → ℕ
 doubled b zero = b
 doubled b (suc t) = 2 * doubled b t
@@ -61,7 +61,7 @@ value_size u h k m le =
     rw (value_is u k m)
     (omega (arith, diff_size (at u) (2 ^ 30) h (m - k) k, rw e at (doubled_le (2 ^ 30) (m - k) (32 - (m - k)))))
 
--- ---- columns before a column with nothing below zero
+-- columns before a column with nothing below zero
 module _ (f : ℕ → ℤ) (n : ℕ) (last : (k : ℕ) → k ≤ n → pos 0 ≤ℤ diff f (n - k) k) where
   pub diff_nonneg : (s t k : ℕ) → t + k + s ≡ n → pos 0 ≤ℤ diff f t k
   diff_nonneg zero t k e = let q : n - k ≡ t = omega arith in rw q at (last k (omega arith))
@@ -83,7 +83,7 @@ module _ (f : ℕ → ℤ) (n : ℕ) (last : (k : ℕ) → k ≤ n → pos 0 ≤
       less : (a b c : ℤ) → a ≤ℤ c → pos 0 ≤ℤ b → (a -ℤ b) ≤ℤ c
       less a b c p q = omega (arith, ints)
 
--- ---- columns and weights
+-- columns and weights
 shifted : (w : ℕ → ℤ) (s k : ℕ) → bin (suc s) (λ i. w (k + i)) ≡ bin s (λ i. w (k + i)) +ℤ bin s (λ i. w (suc k + i))
 shifted w s k =
     bin_more s (λ i. w (k + i))
@@ -113,7 +113,7 @@ module _ (f w : ℕ → ℤ) (n : ℕ) where
       take_off : (a b x y : ℤ) → a ≡ x +ℤ y → b ≡ y → a -ℤ b ≡ x
       take_off a b x y p q = omega (arith, ints)
 
--- ---- the two halves of the theorem
+-- the two halves of the theorem
 pub events_from : (u : List ℕ) → ((k : ℕ) → k ≤ top u → pos 0 ≤ℤ value u k (top u)) → HasEvents u
 events_from u h = (weight, λ j le. from_last (at u) (λ k. pos (weight k)) (top u) is (top u - j) 0 j (omega arith))
   where
