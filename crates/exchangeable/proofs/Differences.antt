@@ -1,9 +1,15 @@
 -- The difference table, and what its columns say of events. Assumes nothing.
-use Rattle.std.proofs.Common.{◌≡◌, ℕ, zero, suc, ◌+◌, ◌-◌, ◌*◌, ◌^◌, ◌<◌, ◌≤◌, List, get_or, ℤ, pos, ◌+ℤ◌, ◌-ℤ◌, neg_ℤ, nat_abs, ◌≤ℤ◌, sym, ap, ◌∙◌, ap₂, arith}
+use Rattle.std.proofs.Common.{◌≡◌, ℕ, zero, suc, ◌+◌, ◌-◌, ◌*◌, ◌^◌, ◌<◌, ◌≤◌, List, get_or, ℤ, pos, ◌+ℤ◌, ◌-ℤ◌, neg_ℤ, nat_abs, ◌≤ℤ◌, sym, ap, ◌∙◌, ap₂, pow-suc, pow_mono, arith}
+use lib.IntN.{*ℤ-one, *ℤ_comm}
 use Rattle.std.proofs.lemmas.Int.{ints}
 use Rattle.algebra.specs.Waring.{signed}
 use Rattle.exchangeable.specs.Events.{integers, value, top, HasEvents}
-use Rattle.exchangeable.proofs.Sums.{bin, bin_more, bin_ext, bin_neg, one_mul}
+use Rattle.exchangeable.proofs.Sums.{bin, bin_more, bin_ext, bin_neg}
+
+-- A sum of one term is that term.
+bin_zero : (w : ℕ → ℤ) (k : ℕ) → bin 0 (λ i. w (k + i)) ≡ w k
+unfolding lib.IntN.one
+bin_zero w k = *ℤ_comm (pos 1) (w (k + 0)) ∙ *ℤ-one (w (k + 0)) ∙ ap w (let e : k + 0 ≡ k = omega arith in e)
 
 -- t differences from place k on
 abbrev pub diff : (ℕ → ℤ) → ℕ → ℕ → ℤ
@@ -15,8 +21,8 @@ abbrev pub at : List ℕ → ℕ → ℤ
 at u k = pos (get_or u k 0)
 
 -- the alternating sum is that difference
-pub alternating : (f : ℕ → ℤ) (t k : ℕ) → bin t (λ j. signed integers j (f (k + j))) ≡ diff f t k
-alternating f zero k = one_mul (f (k + 0)) ∙ ap f (omega arith)
+alternating : (f : ℕ → ℤ) (t k : ℕ) → bin t (λ j. signed integers j (f (k + j))) ≡ diff f t k
+alternating f zero k = bin_zero f k
 alternating f (suc t) k =
     let next : bin t (λ j. neg_ℤ (signed integers j (f (k + suc j)))) ≡ neg_ℤ (bin t (λ j. signed integers j (f (suc k + j)))) =
     bin_neg t (λ j. signed integers j (f (k + suc j)))
@@ -39,27 +45,17 @@ value_step u k m h =
     (ap (λ i. diff (at u) (m - (k + 1)) i) (sym s) ∙ sym (value_is u (k + 1) m))
 
 -- how large the differences grow
-abbrev pub doubled : ℕ → ℕ → ℕ
-doubled b zero = b
-doubled b (suc t) = 2 * doubled b t
-
-doubled_le : (b t s : ℕ) → doubled b t ≤ doubled b (t + s)
-doubled_le b t zero = let e : t + 0 ≡ t = omega arith in rw e (omega arith)
-doubled_le b t (suc s) = let e : t + suc s ≡ suc (t + s) = omega arith in rw e (omega (arith, doubled_le b t s))
-
 abs_sub : (a b : ℤ) → nat_abs (a -ℤ b) ≤ nat_abs a + nat_abs b
 abs_sub a b = omega (arith, ints)
 
-pub diff_size : (f : ℕ → ℤ) (b : ℕ) → ((j : ℕ) → nat_abs (f j) ≤ b) → (t k : ℕ) → nat_abs (diff f t k) ≤ doubled b t
-diff_size f b h zero k = h k
+diff_size : (f : ℕ → ℤ) (b : ℕ) → ((j : ℕ) → nat_abs (f j) ≤ b) → (t k : ℕ) → nat_abs (diff f t k) ≤ b * 2 ^ t
+diff_size f b h zero k = omega (arith, h k)
 diff_size f b h (suc t) k =
-    omega (arith, abs_sub (diff f t k) (diff f t (suc k)), diff_size f b h t k, diff_size f b h t (suc k))
+    rw (pow-suc 2 t) (omega (arith, abs_sub (diff f t k) (diff f t (suc k)), diff_size f b h t k, diff_size f b h t (suc k)))
 
 pub value_size : (u : List ℕ) → ((j : ℕ) → get_or u j 0 ≤ 2 ^ 30) → (k m : ℕ) → m ≤ 32 → nat_abs (value u k m) ≤ 2 ^ 62
 value_size u h k m le =
-    let e : m - k + (32 - (m - k)) ≡ 32 = omega arith in
-    rw (value_is u k m)
-    (omega (arith, diff_size (at u) (2 ^ 30) h (m - k) k, rw e at (doubled_le (2 ^ 30) (m - k) (32 - (m - k)))))
+    rw (value_is u k m) (omega (arith, diff_size (at u) (2 ^ 30) h (m - k) k, pow_mono {i = m - k} {j = 32} (omega arith)))
 
 -- columns before a column with nothing below zero
 module _ (f : ℕ → ℤ) (n : ℕ) (last : (k : ℕ) → k ≤ n → pos 0 ≤ℤ diff f (n - k) k) where
@@ -90,12 +86,9 @@ shifted w s k =
     ∙ ap (λ z. bin s (λ i. w (k + i)) +ℤ z)
     (bin_ext s _ _ (λ i. ap w (let e : k + suc i ≡ suc k + i = omega arith in e)))
 
-bin_zero : (w : ℕ → ℤ) (k : ℕ) → bin 0 (λ i. w (k + i)) ≡ w k
-bin_zero w k = one_mul (w (k + 0)) ∙ ap w (let e : k + 0 ≡ k = omega arith in e)
-
 module _ (f w : ℕ → ℤ) (n : ℕ) where
   -- where the last column is w, each column is a sum over w
-  pub from_last : ((k : ℕ) → k ≤ n → diff f (n - k) k ≡ w k) → (s t k : ℕ) → t + k + s ≡ n → diff f t k ≡ bin s (λ i. w (k + i))
+  from_last : ((k : ℕ) → k ≤ n → diff f (n - k) k ≡ w k) → (s t k : ℕ) → t + k + s ≡ n → diff f t k ≡ bin s (λ i. w (k + i))
   from_last h zero t k e = let q : n - k ≡ t = omega arith in rw q at (h k (omega arith)) ∙ sym (bin_zero w k)
   from_last h (suc s) t k e =
       add_back (diff f t k) (diff f t (suc k)) _ _ (from_last h s (suc t) k (omega arith)) (from_last h s t (suc k) (omega arith))
@@ -105,7 +98,7 @@ module _ (f w : ℕ → ℤ) (n : ℕ) where
       add_back a b x y p q = omega (arith, ints)
 
   -- and where u is a sum over w, so is each column
-  pub from_weights : ((j : ℕ) → j ≤ n → f j ≡ bin (n - j) (λ i. w (j + i))) → (t s k : ℕ) → t + k + s ≡ n → diff f t k ≡ bin s (λ i. w (k + i))
+  from_weights : ((j : ℕ) → j ≤ n → f j ≡ bin (n - j) (λ i. w (j + i))) → (t s k : ℕ) → t + k + s ≡ n → diff f t k ≡ bin s (λ i. w (k + i))
   from_weights h zero s k e = let q : n - k ≡ s = omega arith in rw q at (h k (omega arith))
   from_weights h (suc t) s k e =
       take_off (diff f t k) (diff f t (suc k)) _ _ (from_weights h t (suc s) k (omega arith) ∙ shifted w s k) (from_weights h t s (suc k) (omega arith))
