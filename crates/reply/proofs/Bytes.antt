@@ -1,5 +1,5 @@
 -- Numbers written in bytes, the first the most significant. Assumes nothing.
-use Rattle.std.proofs.Common.{◌≡◌, ℕ, zero, suc, ◌+◌, ◌*◌, ◌/◌, ◌%◌, ◌^◌, ◌<◌, List, [], ◌∷◌, length, get_or, sym, refl, ap, ◌∙◌, ap₂, add-zero, add_assoc, mod-lt, mod-eq_of_lt, mul_assoc, add-mul, zero-add, mul-one, arith, lit<, w8, Fits}
+use Rattle.std.proofs.Common.{◌≡◌, ℕ, zero, suc, ◌+◌, ◌*◌, ◌/◌, ◌%◌, ◌^◌, ◌<◌, List, [], ◌∷◌, length, get_or, sym, refl, ap, ◌∙◌, ap₂, add-zero, add_assoc, mod-eq_of_lt, mul_assoc, add-mul, zero-add, mul-one, arith, lit<, w8, Fits}
 use native.Mathlib.Nat.{pow-succ', mod-one, one-le-pow}
 use lib.Arith.{mod-mul}
 use Rattle.std.specs.Int.Digits.{number_from_digits, number_from_digits_after, AllBelowBase}
@@ -13,10 +13,6 @@ octets bytes small = All-from_get_or (λ d. d < 256) bytes 0 (λ i _. omega (ari
 abbrev pub bytes_of : ℕ → ℕ → List ℕ
 bytes_of zero n = []
 bytes_of (suc k) n = n / 256 ^ k % 256 ∷ bytes_of k n
-
-pub bytes_under : (k n : ℕ) → AllBelowBase 256 (bytes_of k n)
-bytes_under zero n = tt
-bytes_under (suc k) n = (mod-lt (n / 256 ^ k) (lit< tt), bytes_under k n)
 
 number_after : (k a n : ℕ) → number_from_digits_after 256 a (bytes_of k n) ≡ a * 256 ^ k + n % 256 ^ k
 number_after zero a n = sym (ap₂ ◌+◌ (mul-one a) (mod-one n) ∙ add-zero a)

@@ -1,8 +1,8 @@
 -- A record's fields are narrow enough for their places, and acceptable. Assumes nothing.
-use Rattle.std.proofs.Common.{◌≡◌, ℕ, ◌^◌, ◌<◌, ◌≤◌, Bool, true, false, cond, ◌&&◌, eqb, leb, List, length, Ok, Err, sym, refl, ap, ◌∙◌, subst, lt_of_lt_of_le, arith, lit<, pow_mono, eq-eqb, eqb-true, le-leb}
-use borrow.Author.Tests.{clash}
+use Rattle.std.proofs.Common.{◌≡◌, ℕ, ◌^◌, ◌<◌, ◌≤◌, Bool, true, false, cond, ◌&&◌, ◌||◌, eqb, List, length, Ok, Err, sym, refl, ap, ◌∙◌, subst, lt_of_lt_of_le, arith, lit<, pow_mono, eq-eqb, eqb-true, le-leb}
 use Rattle.std.specs.Int.Digits.{number_from_digits, AllBelowBase}
 use Rattle.std.proofs.lemmas.Int.Digits.{number_lt}
+use Rattle.std.proofs.lemmas.Bool.{and_parts}
 use Rattle.std.proofs.lemmas.Bool.Decides.{nat_tests}
 use Rattle.figures.specs.Packs.{Admitted}
 use Rattle.reply.specs.Layout.{part, fields_in, spare_in, Holds}
@@ -29,6 +29,10 @@ question_narrow : (q : Question) → question_number q < 8
 question_narrow Exactly = lit< tt
 question_narrow AtLeast = lit< tt
 
+question_counts : (q : Question) → (eqb (question_number q) 1 || eqb (question_number q) 2) ≡ true
+question_counts Exactly = refl
+question_counts AtLeast = refl
+
 kind_true : (f : Fields) → 1 ≤ f.kind → f.kind ≤ 3 → (f.kind ≡ 2 → f.figure < 2147483647) → kindly f ≡ true
 kind_true f low high residue = grind (arith, nat_tests)
 
@@ -45,23 +49,11 @@ module _ {F : Type 0} (kind width : ℕ) (bits : F → ℕ) (some : F) (admitted
   kind_ok f x e = kind_true f (omega (arith, (admitted x).least)) (omega (arith, (admitted x).greatest))
 
   pub replied_acceptable : (n : ℕ) → n ≤ 64 → (a : Reply F) → acceptable (replied kind bits n a) ≡ true
-  replied_acceptable n h (Answered Exactly k x) =
-      let few : leb n 64 ≡ true = le-leb n 64 h in
-      let low : leb k.number 64 ≡ true = le-leb k.number 64 k.bound in
-      rw (kind_ok (replied kind bits n (Answered Exactly k x)) x refl (admitted x).residue, few, low) refl
-  replied_acceptable n h (Answered AtLeast k x) =
-      let few : leb n 64 ≡ true = le-leb n 64 h in
-      let low : leb k.number 64 ≡ true = le-leb k.number 64 k.bound in
-      rw (kind_ok (replied kind bits n (Answered AtLeast k x)) x refl (admitted x).residue, few, low) refl
-  replied_acceptable n h (Refused Exactly) =
-      let few : leb n 64 ≡ true = le-leb n 64 h in
-      rw (kind_ok (replied kind bits n (Refused Exactly)) some refl (λ _. lit< tt), few) refl
-  replied_acceptable n h (Refused AtLeast) =
-      let few : leb n 64 ≡ true = le-leb n 64 h in
-      rw (kind_ok (replied kind bits n (Refused AtLeast)) some refl (λ _. lit< tt), few) refl
-  replied_acceptable n h Lives =
-      let few : leb n 64 ≡ true = le-leb n 64 h in
-      rw (kind_ok (replied kind bits n Lives) some refl (λ _. lit< tt), few) refl
+  replied_acceptable n h (Answered q k x) =
+      rw (kind_ok (replied kind bits n (Answered q k x)) x refl (admitted x).residue, le-leb n 64 h, le-leb k.number 64 k.bound, question_counts q) refl
+  replied_acceptable n h (Refused q) =
+      rw (kind_ok (replied kind bits n (Refused q)) some refl (λ _. lit< tt), le-leb n 64 h, question_counts q) refl
+  replied_acceptable n h Lives = rw (kind_ok (replied kind bits n Lives) some refl (λ _. lit< tt), le-leb n 64 h) refl
 
 abbrev pub whole : Fields → ℕ
 whole f = placed f.kind f.question f.refusal f.k f.lives f.figure
@@ -82,7 +74,7 @@ holds_placed bytes f w long e = record {
 }
 
 -- and 16 bytes that hold fields write them at their places
-pub placed_holds : (bytes : List ℕ) (f : Fields) → AllBelowBase 256 bytes → Holds bytes f → number_from_digits 256 bytes ≡ whole f
+placed_holds : (bytes : List ℕ) (f : Fields) → AllBelowBase 256 bytes → Holds bytes f → number_from_digits 256 bytes ≡ whole f
 placed_holds bytes f under h =
     let small : number_from_digits 256 bytes < 2 ^ 128 = subst (λ n. number_from_digits 256 bytes < 256 ^ n) h.size (number_lt 256 bytes under) in
     sym (parts_placed (number_from_digits 256 bytes) small h.spare) ∙ ap whole h.fields
@@ -100,14 +92,6 @@ holds_unpacked bytes f h ok =
     let fine : acceptable (fields_in bytes) ≡ true = ap acceptable h.fields ∙ ok in
     rw (long, spare, fine) (ap Ok h.fields)
 
-and_first : (a b : Bool) → (a && b) ≡ true → a ≡ true
-and_first true b e = refl
-and_first false b e = e
-
-and_second : (a b : Bool) → (a && b) ≡ true → b ≡ true
-and_second true b e = e
-and_second false b e = absurd (clash e)
-
 pub held_at : (bytes : List ℕ) {f f' : Fields} → f ≡ f' → Holds bytes f → Holds bytes f'
 held_at bytes e h = subst (λ f. Holds bytes f) e h
 
@@ -120,7 +104,7 @@ accepted bytes f a e = by_size (eqb (length bytes) 16) refl e
         → Holds bytes f × (acceptable f ≡ true) × (cond b (Ok a) (Err Unacceptable) ≡ Ok a)
     by_rules long true t e =
         let same : fields_in bytes ≡ f = cc in
-        (record { size = long; fields = same; spare = eqb-true _ _ (and_first _ _ t) }, ap acceptable (sym same) ∙ and_second _ _ t, refl)
+        (record { size = long; fields = same; spare = eqb-true _ _ (and_parts _ _ t).0 }, ap acceptable (sym same) ∙ (and_parts _ _ t).1, refl)
     by_rules long false t e = let z : ◌≡◌ {A = ℕ} 0 1 = cc in absurd (omega arith)
 
     by_size : (b : Bool) → eqb (length bytes) 16 ≡ b → cond b (cond (eqb (spare_in bytes) 0 && acceptable (fields_in bytes)) (Ok (fields_in bytes)) (Err Unacceptable)) (Err WrongSize) ≡ Ok f
