@@ -1,10 +1,10 @@
 -- Reading decimal digits one by one. Assumes nothing.
-use Rattle.std.proofs.Common.{◌≡◌, ℕ, ◌+◌, ◌-◌, ◌*◌, ◌<◌, ◌≤◌, Bool, true, false, cond, ◌&&◌, leb, List, [], ◌∷◌, map, length, get_or, drop, Some, None, Option, sym, refl, ap, ◌∙◌, arith, le-leb, leb-true}
+use Rattle.std.proofs.Common.{◌≡◌, ℕ, ◌+◌, ◌-◌, ◌*◌, ◌<◌, ◌≤◌, Bool, true, false, cond, ◌&&◌, leb, List, ◌∷◌, map, length, get_or, drop, Some, None, Option, sym, refl, ap, ◌∙◌, arith, le-leb}
 use borrow.Author.Tests.{lt-leb}
 use Rattle.std.specs.Int.Digits.{number_from_digits_after}
 use Rattle.std.proofs.lemmas.Int.Digits.{number_after_ge}
 use Rattle.std.proofs.lemmas.List.{drop_more, drop_all}
-use Rattle.survivorship.specs.Text.{digit, digits, number_within}
+use Rattle.survivorship.specs.Text.{digit, digits}
 
 -- where digits that were read so far write n
 abbrev onto : ℕ → List ℕ → ℕ
@@ -13,22 +13,6 @@ onto n cs = number_from_digits_after 10 n (map (λ c. c - 48) cs)
 -- what comes of the rest
 abbrev pub rest : ℕ → ℕ → List ℕ → Option ℕ
 rest limit n cs = cond (digits cs && leb (onto n cs) limit) (Some (onto n cs)) None
-
-pub bounds : (c : ℕ) → digit c ≡ true → (48 ≤ c) × (c ≤ 57)
-bounds c d = (leb-true 48 c (first (leb 48 c) (leb c 57) d), leb-true c 57 (second (leb 48 c) (leb c 57) d))
-  where
-    first : (a b : Bool) → (a && b) ≡ true → a ≡ true
-    first true b e = refl
-    first false b e = e
-
-    second : (a b : Bool) → (a && b) ≡ true → b ≡ true
-    second true b e = e
-    second false true e = refl
-    second false false e = e
-
-pub begins : (limit : ℕ) (word : List ℕ) → 0 < length word → number_within limit word ≡ rest limit 0 word
-begins limit [] h = absurd (omega arith)
-begins limit (c ∷ cs) h = refl
 
 pub goes_on : (limit n i : ℕ) (word : List ℕ) → i < length word → digit (get_or word i 0) ≡ true
     → rest limit (n * 10 + (get_or word i 0 - 48)) (drop (i + 1) word) ≡ rest limit n (drop i word)
