@@ -133,87 +133,89 @@ module _ {F P : Type 0} {o : Ops F} (L : Laws o) (plain : F → P) where
             (λ k h ne. same_cell (f k) (cell_at o plain l.whole more k) (ap plain (field_pushed (λ m. m.figure) l.whole o.zero lives m n k counted ne)) refl (field_pushed (λ m. m.number) 0 0 lives m n k counted ne));
       }
 
-  -- The figure of the life at a place, as it is read back.
-  read_life : (figure : P → F) → ((x : F) → figure (plain x) ≡ x) → {size : ℕ} {l : Ledger F} {cells : List (Cell P)} → Holds o plain size l cells → (bs : List (Member F)) (m : Member F) (cs : List (Member F)) (place : ℕ) (e : Cell P) (p : F)
-      → l.lives ≡ bs ++ (m ∷ cs) → place ≡ length bs + 1 → place < length cells → p ≡ figure (get_or cells place e).figure → p ≡ m.figure
-  read_life figure back {l = l} held bs m cs place e p are here within is =
-      read_figure figure back held place e p within is
-      ∙ ap (λ lives. get_or (l.whole ∷ figures lives) place o.zero) are ∙ field_at_lem (λ m. m.figure) l.whole o.zero bs m cs place here
+  -- A number was found at a place, and the figure p was read there.
+  module _ (figure : P → F) (back : (x : F) → figure (plain x) ≡ x) {size : ℕ} {l : Ledger F} (number n place : ℕ) {before : List (Cell P)} (e : Cell P) (p : F)
+      (held : Holds o plain size l before) (found : place_of number l.lives ≡ Some place) (counted : n ≡ length l.lives)
+      (within : place < length before) (is : p ≡ figure (get_or before place e).figure) where
+    a : Around number l.lives place
+    a = around number l.lives place found
 
-  pub take_out_held : (figure : P → F) → ((x : F) → figure (plain x) ≡ x) → (size : ℕ) (l : Ledger F) (number n place : ℕ) (before mid after : List (Cell P)) (e : Cell P) (p : F)
-      → Holds o plain size l before → place_of number l.lives ≡ Some place → n ≡ length l.lives → place < length before → p ≡ figure (get_or before place e).figure
-      → mid ≡ divided o plain figure p (take (n + 1) before) ++ drop (n + 1) before
-      → (place ≤ n → (size : ℕ) (figures kept sums : ℕ → P) (numbers left : ℕ → ℕ) → Ends n (plain o.zero) figures → Ends n 0 numbers → Closed place figures kept → Closed place numbers left → mid ≡ cells_of size figures sums numbers → after ≡ cells_of size kept sums left)
-      → Holds o plain size (left l number) after
-  take_out_held figure back size l number n place before mid after e p held found counted within is divide close =
-      let a : Around number l.lives place = around number l.lives place found in
-      let bs : List (Member F) = a.before in
-      let m : Member F = a.life in
-      let cs : List (Member F) = a.after in
-      let all : List (Member F) = bs ++ (m ∷ cs) in
-      let rest : List (Member F) = bs ++ cs in
-      let many : n ≡ length all = counted ∙ ap length a.are in
-      let long : length all ≡ length bs + (length cs + 1) = length-append bs (m ∷ cs) ∙ ap (λ i. length bs + i) (sym (add-one (length cs))) in
-      let short : length rest ≡ length bs + length cs = length-append bs cs in
-      let are : before ≡ laid o plain size l.whole all = held.are ∙ ap (laid o plain size l.whole) a.are in
-      let sized : length before ≡ size = length_held held in
-      let room : n < size = omega (arith, held.few, held.room) in
-      let out : p ≡ m.figure = read_life figure back held bs m cs place e p a.are a.here within is in
-      let mid-is : mid ≡ cells_of size (figure_at l.whole all) (λ k. plain (sums_of L rest k)) (number_at all) =
-      divide ∙ ap₂ (λ q cells. divided o plain figure q (take (n + 1) cells) ++ drop (n + 1) cells) out are
-      ∙ divided_front L plain figure back (figure_at l.whole all) (number_at all) m.figure size n (sums_of L all) (sums_of L rest) room (sums_end L all n (omega arith)) (sums_end L rest n (omega arith)) (sums_at L bs m cs) in
-      let after_is : after ≡ laid o plain size l.whole rest =
-      close (omega (arith, a.here)) size (figure_at l.whole all) (figure_at l.whole rest) (λ k. plain (sums_of L rest k)) (number_at all) (number_at rest)
-      (figures_end l.whole all n many) (field_ends (λ m. m.number) 0 0 all n many)
-      (field_closed (λ m. m.figure) l.whole o.zero plain bs m cs place a.here) (field_closed (λ m. m.number) 0 0 (λ k. k) bs m cs place a.here) mid-is in
-      let ok = all_around (λ m. m.number ≢ 0) bs m cs (subst (AllByRecursion (λ m. m.number ≢ 0)) a.are held.numbered) in
-      record {
-        room = held.room;
-        few = omega (arith, held.few, ap length a.gone);
-        numbered = subst (AllByRecursion (λ m. m.number ≢ 0)) (sym a.gone) (All-append (λ m. m.number ≢ 0) bs cs ok.0 ok.2);
-        are = after_is ∙ ap (laid o plain size l.whole) (sym a.gone);
-      }
+    abbrev bs : List (Member F)
+    bs = a.before
 
-  pub alter_held : (figure : P → F) → ((x : F) → figure (plain x) ≡ x) → (size : ℕ) (l : Ledger F) (number n place : ℕ) (before after : List (Cell P)) (e e' : Cell P) (p x : F) (y : P)
-      → Holds o plain size l before → place_of number l.lives ≡ Some place → n ≡ length l.lives → place < length before → p ≡ figure (get_or before place e).figure
-      → after ≡ exchanged o plain figure p x (take (n + 1) before) ++ drop (n + 1) before
-      → y ≡ plain x
-      → Holds o plain size (altered l number x) (set after place (record { figure = y; sum = (get_or after place e').sum; number = (get_or after place e').number }))
-  alter_held figure back size l number n place before after e e' p x y held found counted within is exchange written =
-      let a : Around number l.lives place = around number l.lives place found in
-      let bs : List (Member F) = a.before in
-      let m : Member F = a.life in
-      let cs : List (Member F) = a.after in
-      let m' : Member F = record { number = number; figure = x } in
-      let all : List (Member F) = bs ++ (m ∷ cs) in
-      let new : List (Member F) = bs ++ (m' ∷ cs) in
-      let many : n ≡ length all = counted ∙ ap length a.are in
-      let long : length new ≡ length all = length-append bs (m' ∷ cs) ∙ sym (length-append bs (m ∷ cs)) in
-      let are : before ≡ laid o plain size l.whole all = held.are ∙ ap (laid o plain size l.whole) a.are in
-      let sized : length before ≡ size = length_held held in
-      let room : n < size = omega (arith, held.few, held.room) in
-      let out : p ≡ m.figure = read_life figure back held bs m cs place e p a.are a.here within is in
-      let f : ℕ → Cell P = cell_of (figure_at l.whole all) (λ k. plain (sums_of L new k)) (number_at all) in
-      let after_is : after ≡ map f (range_with_len 0 size) =
-      exchange ∙ ap₂ (λ q cells. exchanged o plain figure q x (take (n + 1) cells) ++ drop (n + 1) cells) out are
-      ∙ exchanged_front L plain figure back (figure_at l.whole all) (number_at all) m.figure x size n (sums_of L all) (sums_of L (bs ++ cs)) (sums_of L new) room (sums_end L all n (omega arith)) (sums_end L new n (omega arith)) (sums_at L bs m cs) (sums_at L bs m' cs) in
-      let again : Cell P = get_or after place e' in
-      let again-is : again ≡ f place = get_or_counting f size after after_is place e' (omega arith) in
-      let cell : Cell P = record { figure = y; sum = again.sum; number = again.number } in
-      let number_is : again.number ≡ number_at new place =
-      ap (λ c. c.number) again-is ∙ field_at_lem (λ m. m.number) 0 0 bs m cs place a.here ∙ a.named ∙ sym (field_at_lem (λ m. m.number) 0 0 bs m' cs place a.here) in
-      let after-laid : set after place cell ≡ laid o plain size l.whole new =
-      ap (λ xs. set xs place cell) after_is
-      ∙ set_map_counting f (cell_at o plain l.whole new) size place cell
-      (same_cell cell (cell_at o plain l.whole new place) (written ∙ ap plain (sym (field_at_lem (λ m. m.figure) l.whole o.zero bs m' cs place a.here))) (ap (λ c. c.sum) again-is) number_is)
-      (λ k h ne. same_cell (f k) (cell_at o plain l.whole new k) (ap plain (field_other (λ m. m.figure) l.whole o.zero bs m m' cs place k a.here ne)) refl (field_other (λ m. m.number) 0 0 bs m m' cs place k a.here ne)) in
-      let ok = all_around (λ m. m.number ≢ 0) bs m cs (subst (AllByRecursion (λ m. m.number ≢ 0)) a.are held.numbered) in
-      record {
-        room = held.room;
-        few = omega (arith, held.few, ap length (a.anew x), ap length a.are);
-        numbered = subst (AllByRecursion (λ m. m.number ≢ 0)) (sym (a.anew x)) (All-append (λ m. m.number ≢ 0) bs (m' ∷ cs) ok.0 ((λ z. ok.1 (a.named ∙ z)), ok.2));
-        are = after-laid ∙ ap (laid o plain size l.whole) (sym (a.anew x));
-      }
+    abbrev m : Member F
+    m = a.life
+
+    abbrev cs : List (Member F)
+    cs = a.after
+
+    abbrev all : List (Member F)
+    all = bs ++ (m ∷ cs)
+
+    many : n ≡ length all
+    many = counted ∙ ap length a.are
+
+    are : before ≡ laid o plain size l.whole all
+    are = held.are ∙ ap (laid o plain size l.whole) a.are
+
+    room : n < size
+    room = omega (arith, held.few, held.room, length_held held)
+
+    out : p ≡ m.figure
+    out =
+        read_figure figure back held place e p within is
+        ∙ ap (λ lives. get_or (l.whole ∷ figures lives) place o.zero) a.are ∙ field_at_lem (λ m. m.figure) l.whole o.zero bs m cs place a.here
+
+    ok : AllByRecursion (λ m. m.number ≢ 0) bs × (m.number ≢ 0) × AllByRecursion (λ m. m.number ≢ 0) cs
+    ok = all_around (λ m. m.number ≢ 0) bs m cs (subst (AllByRecursion (λ m. m.number ≢ 0)) a.are held.numbered)
+
+    pub take_out_held : (mid after : List (Cell P)) → mid ≡ divided o plain figure p (take (n + 1) before) ++ drop (n + 1) before
+        → (place ≤ n → (size : ℕ) (figures kept sums : ℕ → P) (numbers left : ℕ → ℕ) → Ends n (plain o.zero) figures → Ends n 0 numbers → Closed place figures kept → Closed place numbers left → mid ≡ cells_of size figures sums numbers → after ≡ cells_of size kept sums left)
+        → Holds o plain size (left l number) after
+    take_out_held mid after divide close =
+        let rest : List (Member F) = bs ++ cs in
+        let long : length all ≡ length bs + (length cs + 1) = length-append bs (m ∷ cs) ∙ ap (λ i. length bs + i) (sym (add-one (length cs))) in
+        let short : length rest ≡ length bs + length cs = length-append bs cs in
+        let mid-is : mid ≡ cells_of size (figure_at l.whole all) (λ k. plain (sums_of L rest k)) (number_at all) =
+        divide ∙ ap₂ (λ q cells. divided o plain figure q (take (n + 1) cells) ++ drop (n + 1) cells) out are
+        ∙ divided_front L plain figure back (figure_at l.whole all) (number_at all) m.figure size n (sums_of L all) (sums_of L rest) room (sums_end L all n (omega (arith, many))) (sums_end L rest n (omega (arith, many))) (sums_at L bs m cs) in
+        let after_is : after ≡ laid o plain size l.whole rest =
+        close (omega (arith, many, a.here)) size (figure_at l.whole all) (figure_at l.whole rest) (λ k. plain (sums_of L rest k)) (number_at all) (number_at rest)
+        (figures_end l.whole all n many) (field_ends (λ m. m.number) 0 0 all n many)
+        (field_closed (λ m. m.figure) l.whole o.zero plain bs m cs place a.here) (field_closed (λ m. m.number) 0 0 (λ k. k) bs m cs place a.here) mid-is in
+        record {
+          room = held.room;
+          few = omega (arith, many, held.few, ap length a.gone);
+          numbered = subst (AllByRecursion (λ m. m.number ≢ 0)) (sym a.gone) (All-append (λ m. m.number ≢ 0) bs cs ok.0 ok.2);
+          are = after_is ∙ ap (laid o plain size l.whole) (sym a.gone);
+        }
+
+    pub alter_held : (after : List (Cell P)) (e' : Cell P) (x : F) (y : P) → after ≡ exchanged o plain figure p x (take (n + 1) before) ++ drop (n + 1) before → y ≡ plain x
+        → Holds o plain size (altered l number x) (set after place (record { figure = y; sum = (get_or after place e').sum; number = (get_or after place e').number }))
+    alter_held after e' x y exchange written =
+        let m' : Member F = record { number = number; figure = x } in
+        let new : List (Member F) = bs ++ (m' ∷ cs) in
+        let long : length new ≡ length all = length-append bs (m' ∷ cs) ∙ sym (length-append bs (m ∷ cs)) in
+        let f : ℕ → Cell P = cell_of (figure_at l.whole all) (λ k. plain (sums_of L new k)) (number_at all) in
+        let after_is : after ≡ map f (range_with_len 0 size) =
+        exchange ∙ ap₂ (λ q cells. exchanged o plain figure q x (take (n + 1) cells) ++ drop (n + 1) cells) out are
+        ∙ exchanged_front L plain figure back (figure_at l.whole all) (number_at all) m.figure x size n (sums_of L all) (sums_of L (bs ++ cs)) (sums_of L new) room (sums_end L all n (omega (arith, many))) (sums_end L new n (omega (arith, many))) (sums_at L bs m cs) (sums_at L bs m' cs) in
+        let again : Cell P = get_or after place e' in
+        let again-is : again ≡ f place = get_or_counting f size after after_is place e' (omega (arith, length_held held)) in
+        let cell : Cell P = record { figure = y; sum = again.sum; number = again.number } in
+        let number_is : again.number ≡ number_at new place =
+        ap (λ c. c.number) again-is ∙ field_at_lem (λ m. m.number) 0 0 bs m cs place a.here ∙ a.named ∙ sym (field_at_lem (λ m. m.number) 0 0 bs m' cs place a.here) in
+        let after-laid : set after place cell ≡ laid o plain size l.whole new =
+        ap (λ xs. set xs place cell) after_is
+        ∙ set_map_counting f (cell_at o plain l.whole new) size place cell
+        (same_cell cell (cell_at o plain l.whole new place) (written ∙ ap plain (sym (field_at_lem (λ m. m.figure) l.whole o.zero bs m' cs place a.here))) (ap (λ c. c.sum) again-is) number_is)
+        (λ k h ne. same_cell (f k) (cell_at o plain l.whole new k) (ap plain (field_other (λ m. m.figure) l.whole o.zero bs m m' cs place k a.here ne)) refl (field_other (λ m. m.number) 0 0 bs m m' cs place k a.here ne)) in
+        record {
+          room = held.room;
+          few = omega (arith, held.few, ap length (a.anew x), ap length a.are);
+          numbered = subst (AllByRecursion (λ m. m.number ≢ 0)) (sym (a.anew x)) (All-append (λ m. m.number ≢ 0) bs (m' ∷ cs) ok.0 ((λ z. ok.1 (a.named ∙ z)), ok.2));
+          are = after-laid ∙ ap (laid o plain size l.whole) (sym (a.anew x));
+        }
 
   -- Past cell 0 the cells of a ledger without lives are zero, and cell 0 is the same with lives.
   laid_past : (d : F) (k : ℕ) → 1 ≤ k → cell_at o plain d [] k ≡ zero_cell o plain
