@@ -1,7 +1,6 @@
 -- Multiples and the elementary symmetric sums, over any commutative ring. Assumes nothing.
 use Rattle.std.proofs.Common.{◌≡◌, ℕ, zero, suc, ◌+◌, ◌*◌, ◌/◌, ◌%◌, ◌<◌, List, [], ◌∷◌, ◌++◌, map, length, sym, refl, ap, ◌∙◌, ap₂, suc-add, zero-add, arith}
-use mathlib.Core.List.{map-append}
-use lib.ListN.{length-map}
+use Rattle.std.proofs.lemmas.List.{map-append, length-map}
 use Rattle.algebra.specs.Ring.{Ops, Laws, semi}
 use Rattle.algebra.specs.Patterns.{Life, exactly, at_least}
 use Rattle.algebra.specs.Sums.{power, multiple, elementary, against}

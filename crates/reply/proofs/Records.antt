@@ -92,9 +92,6 @@ holds_unpacked bytes f h ok =
     let fine : acceptable (fields_in bytes) ≡ true = ap acceptable h.fields ∙ ok in
     rw (long, spare, fine) (ap Ok h.fields)
 
-pub held_at : (bytes : List ℕ) {f f' : Fields} → f ≡ f' → Holds bytes f → Holds bytes f'
-held_at bytes e h = subst (λ f. Holds bytes f) e h
-
 -- what an accepted record says of its bytes
 pub accepted : {A : Type 0} (bytes : List ℕ) (f : Fields) (a : A) → unpacked bytes ≡ Ok f
     → Holds bytes f × (acceptable f ≡ true) × (checked bytes a ≡ Ok a)

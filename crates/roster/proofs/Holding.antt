@@ -1,10 +1,8 @@
 -- What the passes leave where the cells held a ledger. Assumes nothing.
 use Rattle.std.proofs.Common.{◌≡◌, ℕ, zero, suc, ◌+◌, ◌-◌, ◌<◌, ◌≤◌, ◌≢◌, List, [], ◌∷◌, ◌++◌, map, length, get_or, take, drop, set, replicate, Some, sym, refl, ap, ◌∙◌, subst, ap₂, append-nil, add-one, arith, length-append}
-use mathlib.Core.List.{map-append}
-use lib.ListN.{length-map}
 use Rattle.std.specs.List.{range_with_len, AllByRecursion}
 use Rattle.std.proofs.ByRecursion.{All-append, All-push}
-use Rattle.std.proofs.lemmas.List.{get_or_past, get_or_at, get_or_append_left, get_or-append_right, get_or-set_other, set_at, length_push}
+use Rattle.std.proofs.lemmas.List.{get_or_past, get_or_at, get_or_append_left, get_or-append_right, get_or-set_other, set_at, length_push, map-append, length-map}
 use Rattle.algebra.specs.Ring.{Ops, Laws}
 use Rattle.algebra.specs.Sums.{elementary}
 use Rattle.algebra.proofs.Rows.{get_or_counting, set_map_counting, map_counting_constant}

@@ -1,8 +1,7 @@
 -- Reading and writing cells that are laid out from a ledger. Assumes nothing.
 use Rattle.std.proofs.Common.{◌≡◌, ℕ, zero, suc, ◌+◌, ◌-◌, ◌<◌, ◌≤◌, min, not, cond, eqb, ltb, ◌≢◌, List, [], ◌∷◌, map, length, get_or, take, drop, set, sym, refl, ap, ◌∙◌, add-one, arith, length-drop}
-use lib.ListN.{length-map}
 use Rattle.std.specs.List.{range_with_len, prefix_len, AllByRecursion}
-use Rattle.std.proofs.lemmas.List.{get_or_past, get_or_default, get_or-map, get_or-take, get_or-drop, length-take, same_lists}
+use Rattle.std.proofs.lemmas.List.{get_or_past, get_or_default, get_or-map, get_or-take, get_or-drop, length-take, same_lists, length-map}
 use Rattle.std.proofs.lemmas.List.Sums.{prefix_len_is}
 use Rattle.std.proofs.lemmas.Bool.{eq-eqb, ne_eqb, lt-ltb, le-ltb, ltb-true, ltb-false, cond-true, cond-false, cond_both}
 use Rattle.algebra.specs.Ring.{Ops}

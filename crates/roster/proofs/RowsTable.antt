@@ -1,9 +1,8 @@
 -- Tables whose front is a row of figures in their plain form. Assumes nothing.
 use Rattle.std.proofs.Common.{◌≡◌, ℕ, ◌+◌, ◌-◌, List, [], ◌∷◌, ◌++◌, map, length, take, drop, set, sym, refl, ap, ◌∙◌, ap₂, append_assoc, append-nil, zero-add, arith, length-drop}
-use mathlib.Core.List.{map-append}
 use Rattle.std.specs.List.{range_with_len}
 use Rattle.std.proofs.lemmas.List.FromFn.{length-map-range_with_len, map-range_with_len_more}
-use Rattle.std.proofs.lemmas.List.{length-map, set_at, drop_all}
+use Rattle.std.proofs.lemmas.List.{length-map, set_at, drop_all, map-append}
 
 module _ {F P : Type 0} (plain : F → P) where
   pub length_row : (f : ℕ → F) (m : ℕ) → length (map plain (map f (range_with_len 0 m))) ≡ m

@@ -1,9 +1,8 @@
 -- The triangle over a row. Assumes nothing.
 use Rattle.std.proofs.Common.{◌≡◌, ℕ, zero, suc, ◌+◌, ◌-◌, ◌<◌, ◌≤◌, List, [], ◌∷◌, ◌++◌, map, length, get_or, take, drop, set, sym, refl, ap, ◌∙◌, subst, ap₂, append_assoc, append-nil, zero-add, add-one, arith}
-use mathlib.Core.List.{map-append}
 use Rattle.std.specs.List.{range_with_len}
 use Rattle.std.proofs.lemmas.List.FromFn.{map-range_with_len_more}
-use Rattle.std.proofs.lemmas.List.{length-take-le, take_more, drop_more, drop-set, set_at, get_or_at, take_at, drop_at}
+use Rattle.std.proofs.lemmas.List.{length-take-le, take_more, drop_more, drop-set, set_at, get_or_at, take_at, drop_at, map-append}
 use Rattle.algebra.specs.Ring.{Ops, Laws, semi}
 use Rattle.algebra.specs.Patterns.{exactly}
 use Rattle.algebra.specs.Rows.{row}

@@ -2,7 +2,6 @@ use Rattle.std.proofs.Common.{◌≡◌, length, sym, ap, ◌∙◌, subst, take
 use Rattle.reply.specs.Asked.{fields_for}
 use Rattle.reply.specs.Layout.{Holds}
 use Rattle.reply.specs.Rules.{replied}
-use Rattle.reply.proofs.Records.{held_at}
 use Rattle.reply.proofs.asked.reply.Goals as goal
 
 pub returns-clause-output : goal.returns-clause-output
@@ -15,6 +14,6 @@ returns-clause-output g c =
       answer = λ size l held.
           let f = fields_for g.F.Ring.ops g.F.Ring.plain p.KIND p.bits l c.args.question c.args.k in
           let same = ap (λ n. replied p.KIND p.bits n c.in_ok-reply.reply) (c.lives.ensures.counted size l held) ∙ said.1 size l held in
-          subst (λ xs. Holds xs f) (sym (take_at front _ 16 long ∙ c.copy_from_slice.ensures.after)) (held_at c.pack.result same c.pack.ensures.holds);
+          subst (λ xs. Holds xs f) (sym (take_at front _ 16 long ∙ c.copy_from_slice.ensures.after)) (subst (Holds c.pack.result) same c.pack.ensures.holds);
       rest = drop_at front _ 16 long;
     }
