@@ -15,7 +15,7 @@ use Rattle.reply.specs.declared.Question.TheVariants.{Exactly, AtLeast}
 use Rattle.reply.specs.declared.asked.Unwritten.{Unwritten}
 use Rattle.reply.specs.declared.asked.Unwritten.TheVariants.{UnknownQuestion}
 use Rattle.reply.specs.declared.Reply.TheVariants.{Answered, Refused, Lives}
-use Rattle.reply.proofs.Records.{replied_acceptable, holds_unpacked}
+use Rattle.reply.proofs.Records.{replied_acceptable, holds_unpacked, ok_err}
 
 module _ {F P : Type 0} (o : Ops F) (plain : F → P) (kind width : ℕ) (bits : F → ℕ) (admitted : (x : F) → Admitted kind width (bits x)) where
   counted_acceptable : (q : Question) (n k : ℕ) (x : F) → n ≤ 64 → acceptable (counted kind (question_number q) n k (bits x)) ≡ true
@@ -46,4 +46,4 @@ asked_so {U = U} {A = A} question u a e = by_question (leb 1 question && leb que
   where
     by_question : (b : Bool) → ◌≡◌ {A = Result U Unwritten} (Ok u) (cond b (Ok u) (Err UnknownQuestion)) → ◌≡◌ {A = Result A Unwritten} (Ok a) (cond b (Ok a) (Err UnknownQuestion))
     by_question true e = refl
-    by_question false e = let z : ◌≡◌ {A = ℕ} 0 1 = cc in absurd (omega arith)
+    by_question false e = absurd (ok_err e)

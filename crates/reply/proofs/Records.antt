@@ -1,5 +1,5 @@
 -- A record's fields are narrow enough for their places, and acceptable. Assumes nothing.
-use Rattle.std.proofs.Common.{◌≡◌, ℕ, ◌^◌, ◌<◌, ◌≤◌, Bool, true, false, cond, ◌&&◌, ◌||◌, eqb, List, length, Ok, Err, sym, refl, ap, ◌∙◌, subst, lt_of_lt_of_le, arith, lit<, pow_mono, eq-eqb, eqb-true, le-leb}
+use Rattle.std.proofs.Common.{◌≡◌, ℕ, ◌^◌, ◌<◌, ◌≤◌, Bool, true, false, cond, ◌&&◌, ◌||◌, eqb, List, length, Ok, Err, Result, sym, refl, ap, ◌∙◌, subst, lt_of_lt_of_le, arith, lit<, pow_mono, eq-eqb, eqb-true, le-leb}
 use Rattle.std.specs.Int.Digits.{number_from_digits, AllBelowBase}
 use Rattle.std.proofs.lemmas.Int.Digits.{number_lt}
 use Rattle.std.proofs.lemmas.Bool.{and_parts}
@@ -92,6 +92,9 @@ holds_unpacked bytes f h ok =
     let fine : acceptable (fields_in bytes) ≡ true = ap acceptable h.fields ∙ ok in
     rw (long, spare, fine) (ap Ok h.fields)
 
+pub ok_err : {T E : Type 0} {x : T} {e : E} → ◌≡◌ {A = Result T E} (Ok x) (Err e) → ⊥
+ok_err h = let z : ◌≡◌ {A = ℕ} 0 1 = cc in absurd (omega arith)
+
 -- what an accepted record says of its bytes
 pub accepted : {A : Type 0} (bytes : List ℕ) (f : Fields) (a : A) → unpacked bytes ≡ Ok f
     → Holds bytes f × (acceptable f ≡ true) × (checked bytes a ≡ Ok a)
@@ -102,19 +105,19 @@ accepted bytes f a e = by_size (eqb (length bytes) 16) refl e
     by_rules long true t e =
         let same : fields_in bytes ≡ f = cc in
         (record { size = long; fields = same; spare = eqb-true _ _ (and_parts _ _ t).0 }, ap acceptable (sym same) ∙ (and_parts _ _ t).1, refl)
-    by_rules long false t e = let z : ◌≡◌ {A = ℕ} 0 1 = cc in absurd (omega arith)
+    by_rules long false t e = absurd (ok_err (sym e))
 
     by_size : (b : Bool) → eqb (length bytes) 16 ≡ b → cond b (cond (eqb (spare_in bytes) 0 && acceptable (fields_in bytes)) (Ok (fields_in bytes)) (Err Unacceptable)) (Err WrongSize) ≡ Ok f
         → Holds bytes f × (acceptable f ≡ true) × (cond b (cond (eqb (spare_in bytes) 0 && acceptable (fields_in bytes)) (Ok a) (Err Unacceptable)) (Err WrongSize) ≡ Ok a)
     by_size true t e = by_rules (eqb-true _ _ t) (eqb (spare_in bytes) 0 && acceptable (fields_in bytes)) refl e
-    by_size false t e = let z : ◌≡◌ {A = ℕ} 0 1 = cc in absurd (omega arith)
+    by_size false t e = absurd (ok_err (sym e))
 
 -- and a refused one is refused whatever it would have given
 pub refused_alike : {A : Type 0} (bytes : List ℕ) (e : Refusal) (a : A) → unpacked bytes ≡ Err e → checked bytes a ≡ Err e
 refused_alike bytes e a h = by_size (eqb (length bytes) 16) h
   where
     by_rules : (b : Bool) → cond b (Ok (fields_in bytes)) (Err Unacceptable) ≡ Err e → cond b (Ok a) (Err Unacceptable) ≡ Err e
-    by_rules true h = let z : ◌≡◌ {A = ℕ} 0 1 = cc in absurd (omega arith)
+    by_rules true h = absurd (ok_err h)
     by_rules false h = let same : Unacceptable ≡ e = cc in ap Err same
 
     by_size : (b : Bool) → cond b (cond (eqb (spare_in bytes) 0 && acceptable (fields_in bytes)) (Ok (fields_in bytes)) (Err Unacceptable)) (Err WrongSize) ≡ Err e

@@ -4,6 +4,7 @@ use lib.Dec.{leb-suc-suc}
 use Rattle.std.specs.List.{position, position_or_len}
 use Rattle.std.specs.Option.{option_map, is_some}
 use Rattle.std.proofs.lemmas.Bool.{lt-ltb, eqb-true, cases_Bool, cond-true, cond-false, or_left}
+use Rattle.std.proofs.lemmas.Option.{none-some, same_Some}
 use Rattle.roster.specs.Ledger.{Member, numbers, present, further, place_of, without, changed}
 use Rattle.roster.specs.declared.cells.Cell.{Cell}
 
@@ -63,18 +64,15 @@ pub record Around {F : Type 0} (n : ℕ) (lives : List (Member F)) (place : ℕ)
   pub anew : (x : F) → changed n x lives ≡ before ++ (record { number = n; figure = x } ∷ after)
   pub named : life.number ≡ n
 
-some_same : (j k : ℕ) → ◌≡◌ {A = Option ℕ} (Some j) (Some k) → j ≡ k
-some_same j k e = cc
-
 pub around : {F : Type 0} (n : ℕ) (lives : List (Member F)) (place : ℕ) → place_of n lives ≡ Some place → Around n lives place
-around n [] place e = let z : ◌≡◌ {A = ℕ} 0 1 = cc in absurd (omega arith)
+around n [] place e = absurd (none-some place e)
 around {F} n (m ∷ ms) place e = at (around n ms) (cases_Bool (eqb m.number n))
   where
     deeper : ((k : ℕ) → place_of n ms ≡ Some k → Around n ms k) → (p : Option ℕ) → place_of n ms ≡ p → further p ≡ Some place → eqb m.number n ≡ false → Around n (m ∷ ms) place
-    deeper rest None is f differs = let z : ◌≡◌ {A = ℕ} 0 1 = cc in absurd (omega arith)
+    deeper rest None is f differs = absurd (none-some place f)
     deeper rest (Some k) is f differs =
         let a : Around n ms k = rest k is in
-        let k-is : k + 1 ≡ place = some_same (k + 1) place f in
+        let k-is : k + 1 ≡ place = same_Some (k + 1) place f in
         record {
           before = m ∷ a.before;
           life = a.life;
@@ -88,7 +86,7 @@ around {F} n (m ∷ ms) place e = at (around n ms) (cases_Bool (eqb m.number n))
 
     at : ((k : ℕ) → place_of n ms ≡ Some k → Around n ms k) → (eqb m.number n ≡ true) ⊎ (eqb m.number n ≡ false) → Around n (m ∷ ms) place
     at rest (inl t) =
-        let one : 1 ≡ place = some_same 1 place (sym (cond-true (eqb m.number n) (Some 1) (further (place_of n ms)) t) ∙ e) in
+        let one : 1 ≡ place = same_Some 1 place (sym (cond-true (eqb m.number n) (Some 1) (further (place_of n ms)) t) ∙ e) in
         record {
           before = [];
           life = m;

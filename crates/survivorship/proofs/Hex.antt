@@ -8,12 +8,9 @@ use Rattle.std.specs.Simd.{first_chunks}
 use Rattle.survivorship.specs.Text.{hex_digit, joined, hex_bytes, hex_char, hex_text}
 
 -- the bytes that pairs of digits write
-abbrev pub pair_read : List ℕ → Option (List ℕ) → Option (List ℕ)
-pair_read p rest = joined (hex_digit (get_or p 0 0)) (hex_digit (get_or p 1 0)) rest
-
 abbrev pub pairs_read : List (List ℕ) → Option (List ℕ)
 pairs_read [] = Some []
-pairs_read (p ∷ ps) = pair_read p (pairs_read ps)
+pairs_read (p ∷ ps) = joined (hex_digit (get_or p 0 0)) (hex_digit (get_or p 1 0)) (pairs_read ps)
 
 hex_pairs : (word : List ℕ) → length word % 2 ≡ 0 → pairs_read (first_chunks 2 (length word / 2) word) ≡ hex_bytes word
 hex_pairs [] h = refl
