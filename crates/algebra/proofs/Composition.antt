@@ -7,6 +7,7 @@ use Rattle.algebra.specs.Rows.{row}
 use Rattle.algebra.proofs.Semiring.{SemiLaws}
 use Rattle.algebra.proofs.Solver.{semiring, made}
 use Rattle.algebra.proofs.Patterns.{exactly_zero_at, exactly_suc_at}
+use Rattle.algebra.proofs.Rows.{below}
 
 module _ {F : Type 0} {s : Semi F} (L : SemiLaws s) where
   -- One life at the end.
@@ -23,8 +24,7 @@ compose s l below (x ∷ xs) = s.plus (s.times l.alive below) (s.times l.dead x)
 
 module _ {F : Type 0} {s : Semi F} (L : SemiLaws s) (ls : List (Life F)) (l : Life F) where
   abbrev before : ℕ → F
-  before zero = s.zero
-  before (suc k) = exactly s k ls
+  before = below s.zero (λ k. exactly s k ls)
 
   composed : (k : ℕ) → s.plus (s.times l.alive (before k)) (s.times l.dead (exactly s k ls)) ≡ exactly s k (ls ++ (l ∷ []))
   composed zero = semiring L (l.alive ∷ l.dead ∷ exactly s 0 ls ∷ []) (search made depth 40 fits 100000) tt ∙ sym (exactly_zero_end L ls l)

@@ -5,6 +5,11 @@ use Rattle.std.proofs.lemmas.List.FromFn.{length-map-range_with_len, get_or-map-
 use Rattle.std.proofs.lemmas.List.{get_or-set_same, get_or-set_other}
 use Rattle.std.proofs.lemmas.Bool.{cases_eq}
 
+-- What stands before a place: z before the first.
+abbrev pub below : {X : Type 0} → X → (ℕ → X) → ℕ → X
+below z f zero = z
+below z f (suc k) = f k
+
 pub map_counting_constant : {X : Type 0} (f : ℕ → X) (c : X) (a n : ℕ) → ((k : ℕ) → a ≤ k → f k ≡ c) → map f (range_with_len a n) ≡ replicate n c
 map_counting_constant f c a zero e = refl
 map_counting_constant f c a (suc n) e = ap₂ ◌∷◌ (e a (omega arith)) (map_counting_constant f c (a + 1) n (λ k h. e k (omega arith)))

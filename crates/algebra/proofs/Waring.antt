@@ -131,6 +131,10 @@ module _ {F : Type 0} {o : Ops F} (L : Laws o) where
     tail_horner j g (suc k) m zero e = absurd (omega arith)
     tail_horner j g (suc k) m (suc n) e = tail_horner j (λ t. g (suc t)) k m n (omega arith) ∙ ap (λ h. horner o d (term o j h) (suc m)) (fun_ext (λ t. ap g (sym (suc-add k t))))
 
+    -- The table: one pass more.
+    pub entry_step : (ps : List F) (j k : ℕ) → entry o d ps (suc j) k ≡ o.plus (entry o d ps j k) (o.minus (entry o d ps (suc j) (suc k)))
+    entry_step ps j k = tail_step j (λ r. elementary o r ps) (suc (length ps)) k
+
     -- One life more: its figure p takes part in the elementary sums.
     entry_cons : (p : F) (ps : List F) (j k : ℕ) → entry o d (p ∷ ps) j (suc k) ≡ o.plus (o.times (entry o d ps j (suc k)) d) (o.times p (entry o d ps j k))
     entry_cons p ps j k =
@@ -150,7 +154,7 @@ module _ {F : Type 0} {o : Ops F} (L : Laws o) where
         at_least_suc_cons (laws_semi L) k (record { alive = p; dead = o.plus d (o.minus p) }) (against o d ps)
         ∙ ap₂ (λ u v. o.plus (o.times p u) (o.times (o.plus d (o.minus p)) v)) (at_least_entry ps k) (at_least_entry ps (suc k))
         ∙ ring L (p ∷ d ∷ x ∷ y ∷ []) (search made depth 40 fits 100000) tt
-        ∙ ap (λ z. o.plus (o.times y d) (o.times p z)) (sym (tail_step k (λ r. elementary o r ps) (suc (length ps)) k))
+        ∙ ap (λ z. o.plus (o.times y d) (o.times p z)) (sym (entry_step ps k k))
         ∙ sym (entry_cons p ps (suc k) k)
 
     pub exactly_entry : (ps : List F) (k : ℕ) → exactly (semi o) k (against o d ps) ≡ entry o d ps (suc k) k
@@ -160,14 +164,11 @@ module _ {F : Type 0} {o : Ops F} (L : Laws o) where
         sym (plus_undo L e more)
         ∙ ap (λ x. o.plus x (o.minus more)) (sym (at_least_split (laws_semi L) k (against o d ps)))
         ∙ ap₂ (λ x y. o.plus x (o.minus y)) (at_least_entry ps k) (at_least_entry ps (suc k))
-        ∙ sym (tail_step k (λ r. elementary o r ps) (suc (length ps)) k)
+        ∙ sym (entry_step ps k k)
 
-    -- The table: no pass, one pass more, the last place, and past it.
+    -- No pass, the last place, and past it.
     pub entry_none : (ps : List F) (k m : ℕ) → k + m ≡ length ps → entry o d ps 0 k ≡ o.times (elementary o k ps) (power o d m)
     entry_none ps k m e = tail_none (λ r. elementary o r ps) k m (length ps) e
-
-    pub entry_step : (ps : List F) (j k : ℕ) → entry o d ps (suc j) k ≡ o.plus (entry o d ps j k) (o.minus (entry o d ps (suc j) (suc k)))
-    entry_step ps j k = tail_step j (λ r. elementary o r ps) (suc (length ps)) k
 
     pub entry_last : (ps : List F) (j : ℕ) → entry o d ps j (length ps) ≡ elementary o (length ps) ps
     entry_last ps j = tail_last j (λ r. elementary o r ps) (length ps)

@@ -15,7 +15,7 @@ use Rattle.reply.specs.declared.Refusal.TheVariants.{WrongSize, Unacceptable}
 use Rattle.reply.specs.declared.Reply.{Reply}
 use Rattle.reply.specs.declared.Reply.TheVariants.{Answered, Refused, Lives}
 use Rattle.reply.proofs.Bytes.{same_bytes}
-use Rattle.reply.proofs.Places.{placed, parts_placed, kind_part, question_part, refusal_part, k_part, lives_part, spare_part, figure_part}
+use Rattle.reply.proofs.Places.{placed, fields_at, parts_placed, fields_found, spare_found}
 
 pub record Narrow (f : Fields) : Type 0 where
   pub kind : f.kind < 4
@@ -55,29 +55,19 @@ module _ {F : Type 0} (kind width : ℕ) (bits : F → ℕ) (some : F) (admitted
       rw (kind_ok (replied kind bits n (Refused q)) some refl (λ _. lit< tt), le-leb n 64 h, question_counts q) refl
   replied_acceptable n h Lives = rw (kind_ok (replied kind bits n Lives) some refl (λ _. lit< tt), le-leb n 64 h) refl
 
-abbrev pub whole : Fields → ℕ
-whole f = placed f.kind f.question f.refusal f.k f.lives f.figure
-
 -- bytes that write the fields at their places hold them
-pub holds_placed : (bytes : List ℕ) (f : Fields) → Narrow f → length bytes ≡ 16 → number_from_digits 256 bytes ≡ whole f → Holds bytes f
+pub holds_placed : (bytes : List ℕ) (f : Fields) → Narrow f → length bytes ≡ 16 → number_from_digits 256 bytes ≡ placed f → Holds bytes f
 holds_placed bytes f w long e = record {
   size = long;
-  fields = λ i. record {
-    kind = (ap (λ n. part n 0 2) e ∙ kind_part _ _ _ _ _ _ w.kind w.question w.refusal w.k w.lives w.figure) i;
-    question = (ap (λ n. part n 2 3) e ∙ question_part f.kind _ _ _ _ _ w.kind w.question w.refusal w.k w.lives w.figure) i;
-    refusal = (ap (λ n. part n 5 6) e ∙ refusal_part f.kind f.question _ _ _ _ w.kind w.question w.refusal w.k w.lives w.figure) i;
-    k = (ap (λ n. part n 11 7) e ∙ k_part f.kind f.question f.refusal _ _ _ w.kind w.question w.refusal w.k w.lives w.figure) i;
-    lives = (ap (λ n. part n 18 7) e ∙ lives_part f.kind f.question f.refusal f.k _ _ w.kind w.question w.refusal w.k w.lives w.figure) i;
-    figure = (ap (λ n. part n 64 64) e ∙ figure_part f.kind f.question f.refusal f.k f.lives _ w.kind w.question w.refusal w.k w.lives w.figure) i;
-  };
-  spare = ap (λ n. part n 25 39) e ∙ spare_part _ _ _ _ _ _ w.kind w.question w.refusal w.k w.lives w.figure;
+  fields = ap fields_at e ∙ fields_found f.kind f.question f.refusal f.k f.lives f.figure w.kind w.question w.refusal w.k w.lives w.figure;
+  spare = ap (λ n. part n 25 39) e ∙ spare_found f.kind f.question f.refusal f.k f.lives f.figure w.kind w.question w.refusal w.k w.lives w.figure;
 }
 
 -- and 16 bytes that hold fields write them at their places
-placed_holds : (bytes : List ℕ) (f : Fields) → AllBelowBase 256 bytes → Holds bytes f → number_from_digits 256 bytes ≡ whole f
+placed_holds : (bytes : List ℕ) (f : Fields) → AllBelowBase 256 bytes → Holds bytes f → number_from_digits 256 bytes ≡ placed f
 placed_holds bytes f under h =
     let small : number_from_digits 256 bytes < 2 ^ 128 = subst (λ n. number_from_digits 256 bytes < 256 ^ n) h.size (number_lt 256 bytes under) in
-    sym (parts_placed (number_from_digits 256 bytes) small h.spare) ∙ ap whole h.fields
+    sym (parts_placed (number_from_digits 256 bytes) small h.spare) ∙ ap placed h.fields
 
 -- so the fields tell the bytes
 pub same_holds : (xs ys : List ℕ) (f : Fields) → AllBelowBase 256 xs → AllBelowBase 256 ys → Holds xs f → Holds ys f → xs ≡ ys

@@ -2,6 +2,7 @@
 use Rattle.std.proofs.Common.{◌≡◌, ℕ, zero, suc, ◌+◌, ◌<◌, ◌≤◌, List, [], ◌∷◌, ◌++◌, map, take, drop, sym, refl, ap, ◌∙◌, ap₂, add-one, arith}
 use Rattle.std.specs.List.{range_with_len, scan}
 use Rattle.algebra.specs.Ring.{Ops, Laws}
+use Rattle.algebra.proofs.Rows.{below}
 use Rattle.algebra.proofs.Semiring.{plus_undo}
 use Rattle.algebra.proofs.Solver.{ring, made}
 use Rattle.roster.specs.Passes.{cell_of, Ends, with_sum, rest, multiplied, divided, exchanged}
@@ -31,11 +32,6 @@ module _ {S X : Type 0} (next : S → X → S) (out : S → X → X) where
 pub record Multiplied {F : Type 0} (o : Ops F) (p : F) (without with : ℕ → F) : Type 0 where
   pub first : with 0 ≡ without 0
   pub after : (k : ℕ) → with (suc k) ≡ o.plus (without (suc k)) (o.times p (without k))
-
--- The sum below a place, with nothing below the first.
-abbrev below : {F : Type 0} → F → (ℕ → F) → ℕ → F
-below z sums zero = z
-below z sums (suc k) = sums k
 
 module _ {F : Type 0} {o : Ops F} (L : Laws o) (p : F) (low high : ℕ → F) (m : Multiplied o p low high) where
   -- One sum with the life, from two without it, and the other way round.

@@ -1,5 +1,5 @@
 -- Reading decimal digits one by one. Assumes nothing.
-use Rattle.std.proofs.Common.{◌≡◌, ℕ, ◌+◌, ◌-◌, ◌*◌, ◌<◌, ◌≤◌, Bool, true, false, cond, ◌&&◌, leb, List, ◌∷◌, map, length, get_or, drop, Some, None, Option, sym, refl, ap, ◌∙◌, arith, le-leb}
+use Rattle.std.proofs.Common.{◌≡◌, ℕ, ◌+◌, ◌-◌, ◌*◌, ◌<◌, ◌≤◌, Bool, true, false, cond, ◌&&◌, leb, List, ◌∷◌, map, length, get_or, drop, Some, None, Option, refl, ap, ◌∙◌, arith, le-leb}
 use Rattle.std.proofs.lemmas.Bool.{lt-leb}
 use Rattle.std.specs.Int.Digits.{number_from_digits_after}
 use Rattle.std.proofs.lemmas.Int.Digits.{number_after_ge}
@@ -14,18 +14,17 @@ onto n cs = number_from_digits_after 10 n (map (λ c. c - 48) cs)
 abbrev pub rest : ℕ → ℕ → List ℕ → Option ℕ
 rest limit n cs = cond (digits cs && leb (onto n cs) limit) (Some (onto n cs)) None
 
-pub goes_on : (limit n i : ℕ) (word : List ℕ) → i < length word → digit (get_or word i 0) ≡ true
-    → rest limit (n * 10 + (get_or word i 0 - 48)) (drop (i + 1) word) ≡ rest limit n (drop i word)
-goes_on limit n i word h d = sym (ap (rest limit n) (drop_more word i 0 h) ∙ one (get_or word i 0) (drop (i + 1) word) d)
+-- One byte more, which is a digit or is none.
+pub one_more : (limit n i : ℕ) (word : List ℕ) (b : Bool) → i < length word → digit (get_or word i 0) ≡ b
+    → rest limit n (drop i word) ≡ cond b (rest limit (n * 10 + (get_or word i 0 - 48)) (drop (i + 1) word)) None
+one_more limit n i word b h d = ap (rest limit n) (drop_more word i 0 h) ∙ first (get_or word i 0) (drop (i + 1) word) ∙ ap (λ t. cond t (rest limit (n * 10 + (get_or word i 0 - 48)) (drop (i + 1) word)) None) d
   where
-    one : (c : ℕ) (cs : List ℕ) → digit c ≡ true → rest limit n (c ∷ cs) ≡ rest limit (n * 10 + (c - 48)) cs
-    one c cs e = ap (λ b. cond ((b && digits cs) && leb (onto (n * 10 + (c - 48)) cs) limit) (Some (onto (n * 10 + (c - 48)) cs)) None) e
-
-pub no_digit : (limit n i : ℕ) (word : List ℕ) → i < length word → digit (get_or word i 0) ≡ false → rest limit n (drop i word) ≡ None
-no_digit limit n i word h d = ap (rest limit n) (drop_more word i 0 h) ∙ one (get_or word i 0) (drop (i + 1) word) d
-  where
-    one : (c : ℕ) (cs : List ℕ) → digit c ≡ false → rest limit n (c ∷ cs) ≡ None
-    one c cs e = ap (λ b. cond ((b && digits cs) && leb (onto (n * 10 + (c - 48)) cs) limit) (Some (onto (n * 10 + (c - 48)) cs)) None) e
+    first : (c : ℕ) (cs : List ℕ) → rest limit n (c ∷ cs) ≡ cond (digit c) (rest limit (n * 10 + (c - 48)) cs) None
+    first c cs = by_digit (digit c)
+      where
+        by_digit : (t : Bool) → cond ((t && digits cs) && leb (onto (n * 10 + (c - 48)) cs) limit) (Some (onto (n * 10 + (c - 48)) cs)) None ≡ cond t (rest limit (n * 10 + (c - 48)) cs) None
+        by_digit true = refl
+        by_digit false = refl
 
 pub too_large : (limit n : ℕ) (cs : List ℕ) → limit < n → rest limit n cs ≡ None
 too_large limit n cs h =
