@@ -1,6 +1,6 @@
 -- Reading decimal digits one by one. Assumes nothing.
-use Rattle.std.proofs.Common.{◌≡◌, ℕ, ◌+◌, ◌-◌, ◌*◌, ◌<◌, ◌≤◌, Bool, true, false, cond, ◌&&◌, leb, List, ◌∷◌, map, length, get_or, drop, Some, None, Option, refl, ap, ◌∙◌, arith, le-leb}
-use Rattle.std.proofs.lemmas.Bool.{lt-leb}
+use Rattle.std.proofs.Common.{◌≡◌, ℕ, ◌+◌, ◌-◌, ◌*◌, ◌<◌, ◌≤◌, Bool, true, false, cond, ◌&&◌, leb, List, map, length, get_or, drop, Some, None, Option, refl, ap, ◌∙◌, arith, le-leb}
+use Rattle.std.proofs.lemmas.Bool.{and_right, lt-leb}
 use Rattle.std.specs.Int.Digits.{number_from_digits_after}
 use Rattle.std.proofs.lemmas.Int.Digits.{number_after_ge}
 use Rattle.std.proofs.lemmas.List.{drop_more, drop_all}
@@ -17,24 +17,20 @@ rest limit n cs = cond (digits cs && leb (onto n cs) limit) (Some (onto n cs)) N
 -- One byte more, which is a digit or is none.
 pub one_more : (limit n i : ℕ) (word : List ℕ) (b : Bool) → i < length word → digit (get_or word i 0) ≡ b
     → rest limit n (drop i word) ≡ cond b (rest limit (n * 10 + (get_or word i 0 - 48)) (drop (i + 1) word)) None
-one_more limit n i word b h d = ap (rest limit n) (drop_more word i 0 h) ∙ first (get_or word i 0) (drop (i + 1) word) ∙ ap (λ t. cond t (rest limit (n * 10 + (get_or word i 0 - 48)) (drop (i + 1) word)) None) d
+one_more limit n i word b h d =
+    let m : ℕ = n * 10 + (get_or word i 0 - 48) in
+    let cs : List ℕ = drop (i + 1) word in
+    ap (rest limit n) (drop_more word i 0 h) ∙ by_digit m cs (digit (get_or word i 0)) ∙ ap (λ t. cond t (rest limit m cs) None) d
   where
-    first : (c : ℕ) (cs : List ℕ) → rest limit n (c ∷ cs) ≡ cond (digit c) (rest limit (n * 10 + (c - 48)) cs) None
-    first c cs = by_digit (digit c)
-      where
-        by_digit : (t : Bool) → cond ((t && digits cs) && leb (onto (n * 10 + (c - 48)) cs) limit) (Some (onto (n * 10 + (c - 48)) cs)) None ≡ cond t (rest limit (n * 10 + (c - 48)) cs) None
-        by_digit true = refl
-        by_digit false = refl
+    by_digit : (m : ℕ) (cs : List ℕ) (t : Bool) → cond ((t && digits cs) && leb (onto m cs) limit) (Some (onto m cs)) None ≡ cond t (rest limit m cs) None
+    by_digit m cs true = refl
+    by_digit m cs false = refl
 
 pub too_large : (limit n : ℕ) (cs : List ℕ) → limit < n → rest limit n cs ≡ None
 too_large limit n cs h =
     let more : n ≤ onto n cs = number_after_ge 10 n (map (λ c. c - 48) cs) (omega arith) in
     let past : leb (onto n cs) limit ≡ false = lt-leb (onto n cs) limit (omega arith) in
-    ap (λ b. cond (digits cs && b) (Some (onto n cs)) None) past ∙ none (digits cs)
-  where
-    none : (b : Bool) → cond (b && false) (Some (onto n cs)) None ≡ None
-    none true = refl
-    none false = refl
+    ap (λ b. cond b (Some (onto n cs)) None) (and_right (digits cs) (leb (onto n cs) limit) past)
 
 pub ends : (limit n i : ℕ) (word : List ℕ) → length word ≤ i → n ≤ limit → rest limit n (drop i word) ≡ Some n
 ends limit n i word h fits = ap (rest limit n) (drop_all i word h) ∙ ap (λ b. cond b (Some n) None) (le-leb n limit fits)
