@@ -25,7 +25,6 @@ module _ {F : Type 0} {o : Ops F} (L : Laws o) where
   multiple_of_times zero x y = ring L (y ∷ []) (search made depth 40 fits 100000) tt
   multiple_of_times (suc c) x y = ap (o.plus (o.times x y)) (multiple_of_times c x y) ∙ ring L (x ∷ y ∷ multiple o c x ∷ []) (search made depth 40 fits 100000) tt
 
-  -- Doubling.
   multiple_double : (c : ℕ) (x : F) → multiple o (2 * c) x ≡ multiple o c (o.plus x x)
   multiple_double c x =
       let e : 2 * c ≡ c + c = omega arith in

@@ -22,7 +22,7 @@ sfits z h = omega (arith, ints)
 value_fits : (u : List ℕ) → Admitted u → (k m : ℕ) → m < length u → SFits w64 (value u k m)
 value_fits u a k m l = sfits _ (value_size u (all_small u a) k m (omega (arith, a.0.1)))
 
--- one step of the pass
+-- One step of the pass.
 module _ (u : List ℕ) (a : Admitted u) (m k : ℕ) (lt : m < length u) (up : 0 < k) (le : k ≤ m) (x y : ℤ)
     (old : x ≡ value u (k - 1) (m - 1)) (new : y ≡ value u k m) where
   taken : to_z w64 (of_z w64 x) -ℤ y ≡ value u (k - 1) m
@@ -41,13 +41,13 @@ choose_all : (n : ℕ) → choose n n ≡ 1
 choose_all zero = refl
 choose_all (suc n) = omega (arith, choose_all n, choose_beyond n (suc n) (omega arith))
 
--- what stands between the ones of a row of the triangle
+-- What stands between the ones of a row of the triangle.
 pub inner : (row : List ℕ) (n k : ℕ) → ((j : ℕ) → j < n → get_or row j 0 ≡ choose (n - 1) j) → k < n - 1
     → get_or (take (n - 1) (drop 1 row)) k 0 ≡ choose (n - 1) (suc k)
 inner [] n k old l = get_or-take (n - 1) [] k 0 l ∙ old (suc k) (omega arith)
 inner (x ∷ xs) n k old l = get_or-take (n - 1) xs k 0 l ∙ old (suc k) (omega arith)
 
--- from a row with a 1 at its end to the next
+-- From a row with a 1 at its end to the next.
 pub next_row : (row new : List ℕ) (n : ℕ) → n < length row → 0 < n
     → ((k : ℕ) → k < n → get_or row k 0 ≡ choose (n - 1) k) → get_or row n 0 ≡ 1 → length new ≡ n - 1
     → ((k : ℕ) → k < n - 1 → get_or new k 0 ≡ get_or (1 ∷ take (n - 1) (drop 1 row)) k 0 + get_or (take (n - 1) (drop 1 row)) k 0)

@@ -42,7 +42,7 @@ module _ (u : List ℕ) (ws : List ℤ) (n : ℕ) (last : n ≡ top u) (long : n
       apart : (z : ℤ) → z <ℤ pos 0 → z ≡ pos (nat_abs z) → ⊥
       apart z n e = omega (arith, ints)
 
--- once the last column has nothing below zero, each entry lies between 0 and the table's limit
+-- Once the last column has nothing below zero, each entry lies between 0 and the table's limit.
 module _ (u : List ℕ) (a : Admitted u) (last : (k : ℕ) → k ≤ top u → pos 0 ≤ℤ value u k (top u)) where
   last_diff : (k : ℕ) → k ≤ top u → pos 0 ≤ℤ diff (at u) (top u - k) k
   last_diff k le = rw (value_is u k (top u)) at (last k le)
@@ -57,7 +57,7 @@ module _ (u : List ℕ) (a : Admitted u) (last : (k : ℕ) → k ≤ top u → p
       below : (z : ℤ) (b : ℕ) → z ≤ℤ pos b → b ≤ 2 ^ 30 → z ≤ℤ pos (2 ^ 30)
       below z b p q = omega (arith, ints)
 
--- the factors and values of the row for m, where the factors stand in a slice of m + 1
+-- The factors and values of the row for m, where the factors stand in a slice of m + 1.
 module _ (u : List ℕ) (m : ℕ) (front fs : List ℕ) (vs : List ℤ) (all : length front ≡ m + 1) (same : length fs ≡ length front)
     (factors : (k : ℕ) → k < length front → get_or fs k 0 ≡ choose (length front - 1) k)
     (values : (k : ℕ) → k < m + 1 → get_or vs k (pos 0) ≡ value u k (m + 1 - 1)) where

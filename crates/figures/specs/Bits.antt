@@ -4,7 +4,7 @@ use Rattle.std.proofs.Common.{sym, ap, ap₂, ◌∙◌, div-add-mod', mod-lt, n
 use Rattle.std.proofs.Math.Arith.{bin_ind}
 use Rattle.std.proofs.lemmas.Nat.{and_shr, and_mod, xor_shr, xor_mod}
 
--- equal halves and equal last bits
+-- Equal halves and equal last bits.
 by_digits : {a b : ℕ} → a / 2 ≡ b / 2 → a % 2 ≡ b % 2 → a ≡ b
 by_digits {a} {b} hi lo = sym (div-add-mod' a 2) ∙ ap₂ (λ x y. x * 2 + y) hi lo ∙ div-add-mod' b 2
 

@@ -16,7 +16,7 @@ sum xs = total naturals xs
 both : (d p q x : ℕ) → q + p ≡ d → q * x + p * x ≡ d * x
 both d p q x e = sym (add-mul q p x) ∙ ap (λ z. z * x) e
 
--- the remainder that is left after a pass
+-- The remainder that is left after a pass.
 abbrev last : ℕ → ℕ → ℕ → List ℕ → ℕ
 last p b c [] = c
 last p b c (x ∷ xs) = last p x ((p * b + (whole - p) * x + c) % whole) xs
@@ -26,14 +26,14 @@ last_below p b c [] h = h
 last_below p b c (x ∷ xs) h = last_below p x ((p * b + (whole - p) * x + c) % whole) xs (omega arith)
 
 module _ (p : ℕ) (le : p ≤ whole) where
-  -- the carries telescope
+  -- The carries telescope.
   tally : (b c : ℕ) (xs : List ℕ) → whole * sum (pass p b c (xs ++ 0 ∷ [])) + last p b c (xs ++ 0 ∷ []) ≡ p * b + c + whole * sum xs
   tally b c [] = omega arith
   tally b c (x ∷ xs) =
       let t : ℕ = p * b + (whole - p) * x + c in
       omega (arith, tally x (t % whole) xs, both whole p (whole - p) x (omega arith))
 
-  -- and so they do from each place on
+  -- And so they do from each place on.
   tail : (k b c : ℕ) (xs : List ℕ)
       → (r : ℕ) × (c < whole → r < whole)
       × (whole * sum (drop (suc k) (pass p b c (xs ++ 0 ∷ []))) + last p b c (xs ++ 0 ∷ [])
@@ -56,7 +56,7 @@ module _ (p : ℕ) (le : p ≤ whole) where
       × (whole * sum (drop (suc k) (with_life row p)) ≡ p * sum (drop k row) + (whole - p) * sum (drop (suc k) row) + r)
   with_tail row e k = let r = tail k 0 0 row in (r.0, r.1 (omega arith), omega (arith, r.2, (with_sum row e).1))
 
--- one life more keeps the bounds
+-- One life more keeps the bounds.
 module _ (d p q x y a b c w f : ℕ) where
   scaled : (p * x + q * y) * d ≡ p * (x * d) + q * (y * d)
   scaled = semiring naturals_laws (p ∷ q ∷ x ∷ y ∷ d ∷ []) (search made depth 40 fits 100000) tt
@@ -67,7 +67,7 @@ module _ (d p q x y a b c w f : ℕ) where
   spread : (p * a + q * b + c) * w ≡ p * (a * w) + q * (b * w) + c * w
   spread = semiring naturals_laws (p ∷ q ∷ a ∷ b ∷ c ∷ w ∷ []) (search made depth 40 fits 100000) tt
 
-  -- a and b are the old sums times w, f the new one
+  -- Here a and b are the old sums times w, and f is the new one.
   near_low : d * f ≡ p * a + q * b + c → x * d ≤ a * w → y * d ≤ b * w → (p * x + q * y) * d ≤ f * (d * w)
   near_low t lx ly = omega (arith, scaled, raised, ap (λ z. z * w) t, spread, mul-le-mul_left p lx, mul-le-mul_left q ly)
 
@@ -98,7 +98,7 @@ near_all_patterns : (n x f : ℕ) → x ≡ whole ^ n → f ≡ whole → Near n
 near_all_patterns n x f ex ef =
     rw (ex, ef) (omega (arith, mul_comm (whole ^ n) whole), omega (arith, mul_comm (whole ^ n) whole))
 
--- the exact sums, as lives are added at the end
+-- The exact sums, as lives are added at the end.
 abbrev life : ℕ → Life ℕ
 life p = record { alive = p; dead = whole - p }
 
@@ -115,7 +115,7 @@ exact_zero (p ∷ ls) h =
     at_least_zero_cons naturals_laws (life p) (map life ls)
     ∙ ap₂ ◌*◌ e (exact_zero ls h.1) ∙ sym (pow-succ' whole (length ls))
 
--- rows
+-- How long rows are, and that they add up to D.
 length_pass : (p b c : ℕ) (xs : List ℕ) → length (pass p b c xs) ≡ length xs
 length_pass p b c [] = refl
 length_pass p b c (x ∷ xs) = ap suc (length_pass p x ((p * b + (whole - p) * x + c) % whole) xs)
@@ -141,7 +141,7 @@ row_sum lives h = (rows_kept lives (whole ∷ []) h refl).0
 pub row_long : (lives : List ℕ) → AllByRecursion (λ p. p ≤ whole) lives → length (money_row lives) ≡ length lives + 1
 row_long lives h = omega (arith, (rows_kept lives (whole ∷ []) h refl).1)
 
--- all the bounds of a row
+-- All the bounds of a row.
 abbrev Good : List ℕ → List ℕ → Type 0
 Good ls row = (sum row ≡ whole) × ((k : ℕ) → Near (length ls) (exact ls k) (sum (drop k row)))
 
@@ -172,7 +172,7 @@ good_all (p ∷ rest) ls row h all some g =
     (good_all rest (ls ++ p ∷ []) (with_life row p) h.1 (All-append (λ x. x ≤ whole) ls (p ∷ []) all (h.0, tt))
     (omega (arith, length-append ls (p ∷ []))) (good_more ls row p h.0 all some g))
 
--- the first life loses nothing
+-- The first life loses nothing.
 near_same : (x f : ℕ) → f ≡ x → Near 1 x f
 near_same x f e = omega arith
 

@@ -13,7 +13,7 @@ use Rattle.money.proofs.Rounding.{sum, get_or_le_sum, row_long, row_sum, near_al
 all_within : (lives : List ℕ) → Admitted lives → AllByRecursion (λ p. p ≤ whole) lives
 all_within lives a = All-from_get_or (λ p. p ≤ whole) lives 0 a.1
 
--- one turn of the loop over the lives
+-- One turn of the loop over the lives.
 module _ (lives entry row : List ℕ) (i : ℕ) (a : Admitted lives) (l : i < length lives) (room : length lives < length entry)
     (so_far : row ≡ money_row (take i lives) ++ drop (i + 1) entry) where
   within : AllByRecursion (λ p. p ≤ whole) (take i lives)

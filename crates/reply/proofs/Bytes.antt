@@ -5,11 +5,11 @@ use lib.Arith.{mod-mul}
 use Rattle.std.specs.Int.Digits.{number_from_digits, number_from_digits_after, AllBelowBase}
 use Rattle.std.proofs.ByRecursion.{All-from_get_or}
 
--- what is read from a slice of bytes fits them
+-- What is read from a slice of bytes fits them.
 pub octets : (bytes : List ℕ) → ((i : ℕ) → Fits w8 (get_or bytes i 0)) → AllBelowBase 256 bytes
 octets bytes small = All-from_get_or (λ d. d < 256) bytes 0 (λ i _. omega (arith, small i))
 
--- the k lowest bytes of a number
+-- The k lowest bytes of a number.
 abbrev pub bytes_of : ℕ → ℕ → List ℕ
 bytes_of zero n = []
 bytes_of (suc k) n = n / 256 ^ k % 256 ∷ bytes_of k n
@@ -23,11 +23,11 @@ number_after (suc k) a n =
     ∙ ap₂ ◌+◌ (mul_assoc a 256 (256 ^ k) ∙ ap (λ x. a * x) (sym (pow-succ' 256 k)))
     (sym (ap (λ x. n % x) (pow-succ' 256 k) ∙ mod-mul n (lit< tt) (one-le-pow k 256 (lit< tt))))
 
--- 16 bytes write every number of 128 bits
+-- 16 bytes write every number of 128 bits.
 pub number_bytes : (n : ℕ) → n < 2 ^ 128 → number_from_digits 256 (bytes_of 16 n) ≡ n
 number_bytes n h = number_after 16 0 n ∙ zero-add (n % 256 ^ 16) ∙ mod-eq_of_lt h
 
--- bytes are told by their number and their count
+-- Bytes are told by their number and their count.
 same_after : (a b : ℕ) (xs ys : List ℕ) → length xs ≡ length ys → AllBelowBase 256 xs → AllBelowBase 256 ys
     → number_from_digits_after 256 a xs ≡ number_from_digits_after 256 b ys → (a ≡ b) × (xs ≡ ys)
 same_after a b [] [] long us vs e = (e, refl)

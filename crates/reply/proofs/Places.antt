@@ -27,6 +27,6 @@ module _ (kind question refusal k lives figure : ℕ)
   pub spare_found : part (placed fields) 25 39 ≡ 0
   spare_found = omega arith
 
--- and a number with a spare of zeros is made of its parts
+-- And a number with a spare of zeros is made of its parts.
 pub parts_placed : (n : ℕ) → n < 2 ^ 128 → part n 25 39 ≡ 0 → placed (fields_at n) ≡ n
 parts_placed n h spare = omega arith

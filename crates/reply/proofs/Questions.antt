@@ -31,7 +31,7 @@ module _ {F P : Type 0} (o : Ops F) (plain : F → P) (kind width : ℕ) (bits :
       (λ _. cond_both (eqb question 2) _ _ (λ f. acceptable f ≡ true) (λ _. counted_acceptable AtLeast n k (at_least_of o plain l k) few)
       (λ _. replied_acceptable kind width bits o.zero admitted n few Lives))
 
-  -- sixteen bytes that a reply filled are read as the fields of its answer
+  -- Sixteen bytes that a reply filled are read as the fields of its answer.
   pub replied_unpacked : (before : List (Cell P)) (question k : ℕ) (old new : List ℕ) → length new ≡ 16 → Written o plain kind bits before question k old new
       → (size : ℕ) (l : Ledger F) → cells.Holds o plain size l before → unpacked new ≡ Ok (fields_for o plain kind bits l question k)
   replied_unpacked before question k old new long written size l held =
@@ -40,7 +40,7 @@ module _ {F P : Type 0} (o : Ops F) (plain : F → P) (kind width : ℕ) (bits :
       let few : length l.lives ≤ 64 = omega (arith, held.few, held.room) in
       holds_unpacked new f (subst (λ xs. Holds xs f) all (written.answer size l held)) (fields_acceptable l question k few)
 
--- a question that was not refused is asked, whatever comes of it
+-- A question that was not refused is asked, whatever comes of it.
 pub asked_so : {U A : Type 0} (question : ℕ) (u : U) (a : A) → Ok u ≡ asking 16 question u → Ok a ≡ asking 16 question a
 asked_so {U = U} {A = A} question u a e = by_question (leb 1 question && leb question 3) e
   where

@@ -55,7 +55,7 @@ module _ {F : Type 0} (kind width : ℕ) (bits : F → ℕ) (some : F) (admitted
       rw (kind_ok (replied kind bits n (Refused q)) some refl (λ _. lit< tt), le-leb n 64 h, question_counts q) refl
   replied_acceptable n h Lives = rw (kind_ok (replied kind bits n Lives) some refl (λ _. lit< tt), le-leb n 64 h) refl
 
--- bytes that write the fields at their places hold them
+-- Bytes that write the fields at their places hold them.
 pub holds_placed : (bytes : List ℕ) (f : Fields) → Narrow f → length bytes ≡ 16 → number_from_digits 256 bytes ≡ placed f → Holds bytes f
 holds_placed bytes f w long e = record {
   size = long;
@@ -63,18 +63,18 @@ holds_placed bytes f w long e = record {
   spare = ap (λ n. part n 25 39) e ∙ spare_found f.kind f.question f.refusal f.k f.lives f.figure w.kind w.question w.refusal w.k w.lives w.figure;
 }
 
--- and 16 bytes that hold fields write them at their places
+-- And 16 bytes that hold fields write them at their places.
 placed_holds : (bytes : List ℕ) (f : Fields) → AllBelowBase 256 bytes → Holds bytes f → number_from_digits 256 bytes ≡ placed f
 placed_holds bytes f under h =
     let small : number_from_digits 256 bytes < 2 ^ 128 = subst (λ n. number_from_digits 256 bytes < 256 ^ n) h.size (number_lt 256 bytes under) in
     sym (parts_placed (number_from_digits 256 bytes) small h.spare) ∙ ap placed h.fields
 
--- so the fields tell the bytes
+-- So the fields tell the bytes.
 pub same_holds : (xs ys : List ℕ) (f : Fields) → AllBelowBase 256 xs → AllBelowBase 256 ys → Holds xs f → Holds ys f → xs ≡ ys
 same_holds xs ys f us vs h k =
     same_bytes xs ys (h.size ∙ sym k.size) us vs (placed_holds xs f us h ∙ sym (placed_holds ys f vs k))
 
--- a record that holds acceptable fields is read as them
+-- A record that holds acceptable fields is read as them.
 pub holds_unpacked : (bytes : List ℕ) (f : Fields) → Holds bytes f → acceptable f ≡ true → unpacked bytes ≡ Ok f
 holds_unpacked bytes f h ok =
     let long : eqb (length bytes) 16 ≡ true = eq-eqb _ _ h.size in
@@ -85,7 +85,7 @@ holds_unpacked bytes f h ok =
 pub ok_err : {T E : Type 0} {x : T} {e : E} → ◌≡◌ {A = Result T E} (Ok x) (Err e) → ⊥
 ok_err h = let z : ◌≡◌ {A = ℕ} 0 1 = cc in absurd (omega arith)
 
--- what an accepted record says of its bytes
+-- What an accepted record says of its bytes.
 pub accepted : {A : Type 0} (bytes : List ℕ) (f : Fields) (a : A) → unpacked bytes ≡ Ok f
     → Holds bytes f × (acceptable f ≡ true) × (checked bytes a ≡ Ok a)
 accepted bytes f a e = by_size (eqb (length bytes) 16) refl e
@@ -102,7 +102,7 @@ accepted bytes f a e = by_size (eqb (length bytes) 16) refl e
     by_size true t e = by_rules (eqb-true _ _ t) (eqb (spare_in bytes) 0 && acceptable (fields_in bytes)) refl e
     by_size false t e = absurd (ok_err (sym e))
 
--- and a refused one is refused whatever it would have given
+-- And a refused one is refused whatever it would have given.
 pub refused_alike : {A : Type 0} (bytes : List ℕ) (e : Refusal) (a : A) → unpacked bytes ≡ Err e → checked bytes a ≡ Err e
 refused_alike bytes e a h = by_size (eqb (length bytes) 16) h
   where

@@ -18,7 +18,7 @@ use Rattle.roster.proofs.Holding.{cleared_laid}
 use Rattle.roster.proofs.RowsTable.{written_from}
 
 module _ {F P : Type 0} (o : Ops F) (plain : F → P) where
-  -- A link, where the cells hold what the answer that was given lets a call do.
+  -- A call is met where the answer is the ledger's and the cells hold what that answer lets the call do.
   pub answer_met : (call : Call F P) (before : List (Cell P)) (given : Answer F P) (after : List (Cell P))
       → ((size : ℕ) (l : Ledger F) → Holds o plain size l before
       → (given ≡ answer o plain l call) × Holds o plain size (record { whole = l.whole; capacity = l.capacity; lives = cond (is_refused o plain given) l.lives (granted o plain l.lives call) }) after)

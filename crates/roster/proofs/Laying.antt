@@ -76,7 +76,7 @@ module _ {X : Type 0} (f g : ℕ → X) where
   up_to_from : (r k : ℕ) → r ≤ k → up_to r f g k ≡ g k
   up_to_from r k h = cond-false (ltb k r) (f k) (g k) (le-ltb k r h)
 
-  -- A third function, which each is where it counts.
+  -- It is h at a place, where f is h below r and g is h from r on.
   up_to_is : (h : ℕ → X) (r k : ℕ) → (k < r → f k ≡ h k) → (r ≤ k → g k ≡ h k) → up_to r f g k ≡ h k
   up_to_is h r k low high = cond_both (ltb k r) (f k) (g k) (λ x. x ≡ h k) (λ t. low (ltb-true k r t)) (λ t. high (ltb-false k r t))
 

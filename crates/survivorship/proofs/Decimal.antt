@@ -6,11 +6,11 @@ use Rattle.std.proofs.lemmas.Int.Digits.{number_after_ge}
 use Rattle.std.proofs.lemmas.List.{drop_more, drop_all}
 use Rattle.survivorship.specs.Text.{digit, digits}
 
--- where digits that were read so far write n
+-- Where digits that were read so far write n.
 abbrev onto : ℕ → List ℕ → ℕ
 onto n cs = number_from_digits_after 10 n (map (λ c. c - 48) cs)
 
--- what comes of the rest
+-- What comes of the rest.
 abbrev pub rest : ℕ → ℕ → List ℕ → Option ℕ
 rest limit n cs = cond (digits cs && leb (onto n cs) limit) (Some (onto n cs)) None
 
