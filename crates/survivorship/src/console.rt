@@ -1,6 +1,7 @@
 //! The lines that are read, and what is printed for each.
-ghost use Rattle.std.specs.Prelude.{◌≡◌, true, ◌&&◌, IfOk, IfErr, OnOk};
+ghost use Rattle.std.specs.Prelude.{◌≡◌, true, ◌&&◌, map, IfOk, IfErr, OnOk};
 ghost use Rattle.std.specs.IoError.{error_kind};
+ghost use Rattle.survivorship.specs.Text.{echoed_words};
 ghost use Rattle.survivorship.specs.Understood.{is_understood};
 
 use crate::answers::done;
@@ -69,12 +70,7 @@ impl Printer {
     fn line(&mut self, words: &[&[u8]], answer: &impl Display) -> anyhow::Result<()>
         ensures { self.new.understood ≡ self.old.understood }
     {
-        let mut echoed = Vec::new(self.heap);
-        for word in words {
-            echoed.extend(word.iter().map(|b| echo(*b)))?;
-            echoed.push(b' ')?;
-        }
-        self.out.write_all(&echoed)?;
+        self.out.write_all(&echo_words(self.heap, words)?)?;
         writeln!(self.out, "-> {answer}")?;
         Ok(())
     }
@@ -86,4 +82,16 @@ impl Printer {
         self.out.flush()?;
         Ok(self.understood)
     }
+}
+
+/// Words as they are echoed, with a blank behind each.
+fn echo_words(heap: Global, words: &[&[u8]]) -> Result<Vec<u8>, AllocError>
+    ensures { IfOk result (λ text. text.items ≡ echoed_words (map (λ word. word.now) words.now)) }
+{
+    let mut echoed = Vec::new(heap);
+    for word in words {
+        echoed.extend(word.iter().map(|b| echo(*b)))?;
+        echoed.push(b' ')?;
+    }
+    Ok(echoed)
 }
