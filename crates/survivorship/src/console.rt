@@ -6,7 +6,7 @@ ghost use Rattle.text.specs.Understood.{is_understood};
 use std::alloc::{AllocError, Global};
 use std::fmt::Display;
 use std::io::{self, BufWriter, ErrorKind, Stdout, Write};
-use text::{Lines, Unanswered, done, echo};
+use text::{Lines, Unanswered, done, echo_words};
 
 /// What is read and what is printed.
 #[derive(Drop)]
@@ -66,12 +66,7 @@ impl Printer {
     fn line(&mut self, words: &[&[u8]], answer: &impl Display) -> anyhow::Result<()>
         ensures { self.new.understood ≡ self.old.understood }
     {
-        let mut echoed = Vec::new(self.heap);
-        for word in words {
-            echoed.extend(word.iter().map(|b| echo(*b)))?;
-            echoed.push(b' ')?;
-        }
-        self.out.write_all(&echoed)?;
+        self.out.write_all(&echo_words(self.heap, words)?)?;
         writeln!(self.out, "-> {answer}")?;
         Ok(())
     }

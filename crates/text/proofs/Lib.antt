@@ -2,3 +2,4 @@ pub mod Digits
 pub mod Decimal
 pub mod Spaces
 pub mod FirstLine
+pub mod Echoes

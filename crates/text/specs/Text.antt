@@ -13,6 +13,11 @@ blank b = b == 32 || (b == 9 || b == 13)
 abbrev pub echoed : ℕ → ℕ
 echoed b = cond (nat_le 33 b && nat_le b 126) b 63
 
+-- Words as they are echoed, with a blank behind each.
+abbrev pub echoed_words : List (List ℕ) → List ℕ
+echoed_words [] = []
+echoed_words (word ∷ words) = map echoed word ++ (32 ∷ echoed_words words)
+
 -- A hex digit's value, for either case.
 abbrev pub hex_digit : ℕ → Option ℕ
 hex_digit c =
