@@ -1,21 +1,14 @@
--- Multiples, powers and the elementary symmetric sums, over any commutative ring. Assumes nothing.
-use Rattle.std.proofs.Common.{◌≡◌, ℕ, zero, suc, ◌+◌, ◌*◌, ◌/◌, ◌%◌, ◌<◌, List, [], ◌∷◌, ◌++◌, map, length, sym, refl, ap, ◌∙◌, ap₂, append-nil, suc-add, zero-add, add-one, arith}
-use mathlib.Core.List.{map-append}
-use lib.ListN.{length-map}
+-- Multiples and the elementary symmetric sums, over any commutative ring. Assumes nothing.
+use Rattle.std.proofs.Common.{◌≡◌, ℕ, zero, suc, ◌+◌, ◌*◌, ◌/◌, ◌%◌, ◌<◌, List, [], ◌∷◌, ◌++◌, map, length, sym, refl, ap, ◌∙◌, ap₂, suc-add, zero-add, arith}
+use Rattle.std.proofs.lemmas.List.{map-append, length-map}
 use Rattle.algebra.specs.Ring.{Ops, Laws, semi}
 use Rattle.algebra.specs.Patterns.{Life, exactly, at_least}
 use Rattle.algebra.specs.Sums.{power, multiple, elementary, against}
 use Rattle.algebra.proofs.Semiring.{laws_semi}
 use Rattle.algebra.proofs.Solver.{ring, made}
-use Rattle.algebra.proofs.Patterns.{exactly_zero_nil, exactly_suc_nil, exactly_zero_cons, exactly_suc_at, exactly_beyond, at_least_beyond, at_least_zero_nil, at_least_zero_cons}
+use Rattle.algebra.proofs.Patterns.{exactly_zero_nil, exactly_zero_cons, exactly_suc_at, exactly_beyond, at_least_zero_nil, at_least_zero_cons}
 
 module _ {F : Type 0} {o : Ops F} (L : Laws o) where
-  pub multiple_zero : (x : F) → multiple o 0 x ≡ o.zero
-  multiple_zero x = refl
-
-  pub multiple_one : (x : F) → multiple o 1 x ≡ x
-  multiple_one x = L.plus_zero x
-
   pub multiple_plus : (a b : ℕ) (x : F) → multiple o (a + b) x ≡ o.plus (multiple o a x) (multiple o b x)
   multiple_plus zero b x = rw zero-add (ring L (multiple o b x ∷ []) (search made depth 40 fits 100000) tt)
   multiple_plus (suc a) b x = rw suc-add (ap (o.plus x) (multiple_plus a b x) ∙ sym (L.plus_assoc x (multiple o a x) (multiple o b x)))
@@ -28,16 +21,11 @@ module _ {F : Type 0} {o : Ops F} (L : Laws o) where
   multiple_of_zero zero = refl
   multiple_of_zero (suc c) = ap (o.plus o.zero) (multiple_of_zero c) ∙ L.plus_zero o.zero
 
-  pub multiple_of_minus : (c : ℕ) (x : F) → multiple o c (o.minus x) ≡ o.minus (multiple o c x)
-  multiple_of_minus zero x = ring L [] (search made depth 40 fits 100000) tt
-  multiple_of_minus (suc c) x = ap (o.plus (o.minus x)) (multiple_of_minus c x) ∙ ring L (x ∷ multiple o c x ∷ []) (search made depth 40 fits 100000) tt
-
   pub multiple_of_times : (c : ℕ) (x y : F) → multiple o c (o.times x y) ≡ o.times (multiple o c x) y
   multiple_of_times zero x y = ring L (y ∷ []) (search made depth 40 fits 100000) tt
   multiple_of_times (suc c) x y = ap (o.plus (o.times x y)) (multiple_of_times c x y) ∙ ring L (x ∷ y ∷ multiple o c x ∷ []) (search made depth 40 fits 100000) tt
 
-  -- Doubling.
-  pub multiple_double : (c : ℕ) (x : F) → multiple o (2 * c) x ≡ multiple o c (o.plus x x)
+  multiple_double : (c : ℕ) (x : F) → multiple o (2 * c) x ≡ multiple o c (o.plus x x)
   multiple_double c x =
       let e : 2 * c ≡ c + c = omega arith in
       ap (λ n. multiple o n x) e ∙ multiple_plus c c x ∙ sym (multiple_of_plus c x x)
@@ -46,17 +34,6 @@ module _ {F : Type 0} {o : Ops F} (L : Laws o) where
   multiple_half c x =
       let e : c ≡ c % 2 + 2 * (c / 2) = omega arith in
       ap (λ n. multiple o n x) e ∙ multiple_plus (c % 2) (2 * (c / 2)) x ∙ ap (o.plus (multiple o (c % 2) x)) (multiple_double (c / 2) x)
-
-  pub power_plus : (d : F) (m n : ℕ) → power o d (m + n) ≡ o.times (power o d m) (power o d n)
-  power_plus d zero n = rw zero-add (ring L (power o d n ∷ []) (search made depth 40 fits 100000) tt)
-  power_plus d (suc m) n = rw suc-add (ap (o.times d) (power_plus d m n) ∙ sym (L.times_assoc d (power o d m) (power o d n)))
-
-  -- For an index n + 1.
-  pub multiple_more : (c : ℕ) (x : F) → multiple o (c + 1) x ≡ o.plus x (multiple o c x)
-  multiple_more c x = rw add-one
-
-  pub power_more : (d : F) (n : ℕ) → power o d (n + 1) ≡ o.times d (power o d n)
-  power_more d n = rw add-one
 
   -- The r figures that are chosen stand among the lives as those alive.
   abbrev chosen : List F → List (Life F)
@@ -75,43 +52,13 @@ module _ {F : Type 0} {o : Ops F} (L : Laws o) where
   pub elementary_suc_cons : (r : ℕ) (p : F) (ps : List F) → elementary o (suc r) (p ∷ ps) ≡ o.plus (elementary o (suc r) ps) (o.times p (elementary o r ps))
   elementary_suc_cons r p ps = elementary_suc_at r [] p ps
 
-  pub elementary_more_at : (r : ℕ) (xs : List F) (p : F) (ys : List F) → elementary o (r + 1) (xs ++ (p ∷ ys)) ≡ o.plus (elementary o (r + 1) (xs ++ ys)) (o.times p (elementary o r (xs ++ ys)))
-  elementary_more_at r xs p ys = rw add-one (elementary_suc_at r xs p ys)
-
-  pub elementary_suc_end : (r : ℕ) (ps : List F) (p : F) → elementary o (suc r) (ps ++ (p ∷ [])) ≡ o.plus (elementary o (suc r) ps) (o.times p (elementary o r ps))
-  elementary_suc_end r ps p = elementary_suc_at r ps p [] ∙ ap (λ xs. o.plus (elementary o (suc r) xs) (o.times p (elementary o r xs))) (append-nil ps)
-
-  pub elementary_more_end : (r : ℕ) (ps : List F) (p : F) → elementary o (r + 1) (ps ++ (p ∷ [])) ≡ o.plus (elementary o (r + 1) ps) (o.times p (elementary o r ps))
-  elementary_more_end r ps p = rw add-one (elementary_suc_end r ps p)
-
-  -- Taking a figure out again: the sums without it, from those with it.
-  pub elementary_suc_without : (r : ℕ) (xs : List F) (p : F) (ys : List F) → elementary o (suc r) (xs ++ ys) ≡ o.plus (elementary o (suc r) (xs ++ (p ∷ ys))) (o.minus (o.times p (elementary o r (xs ++ ys))))
-  elementary_suc_without r xs p ys =
-      let without = elementary o (suc r) (xs ++ ys) in
-      let less = o.times p (elementary o r (xs ++ ys)) in
-      let undo : without ≡ o.plus (o.plus without less) (o.minus less) = ring L (without ∷ less ∷ []) (search made depth 40 fits 100000) tt in
-      undo ∙ ap (λ w. o.plus w (o.minus less)) (sym (elementary_suc_at r xs p ys))
-
-  pub elementary_more_without : (r : ℕ) (xs : List F) (p : F) (ys : List F) → elementary o (r + 1) (xs ++ ys) ≡ o.plus (elementary o (r + 1) (xs ++ (p ∷ ys))) (o.minus (o.times p (elementary o r (xs ++ ys))))
-  elementary_more_without r xs p ys = rw add-one (elementary_suc_without r xs p ys)
-
   pub elementary_zero : (ps : List F) → elementary o 0 ps ≡ o.one
   elementary_zero [] = exactly_zero_nil (laws_semi L)
   elementary_zero (p ∷ ps) = exactly_zero_cons (laws_semi L) (record { alive = p; dead = o.one }) (chosen ps) ∙ ap (o.times o.one) (elementary_zero ps) ∙ L.times_one o.one
 
-  pub elementary_suc_nil : (r : ℕ) → elementary o (suc r) [] ≡ o.zero
-  elementary_suc_nil r = exactly_suc_nil (laws_semi L) r
-
   -- More chosen than there are.
   pub elementary_beyond : (r : ℕ) (ps : List F) → length ps < r → elementary o r ps ≡ o.zero
   elementary_beyond r ps h = exactly_beyond (laws_semi L) r (chosen ps) (rw length-map h)
-
-  -- More alive than there are.
-  pub exactly_against_beyond : (d : F) (k : ℕ) (ps : List F) → length ps < k → exactly (semi o) k (against o d ps) ≡ o.zero
-  exactly_against_beyond d k ps h = exactly_beyond (laws_semi L) k (against o d ps) (rw length-map h)
-
-  pub at_least_against_beyond : (d : F) (k : ℕ) (ps : List F) → length ps < k → at_least (semi o) k (against o d ps) ≡ o.zero
-  at_least_against_beyond d k ps h = at_least_beyond (laws_semi L) k (against o d ps) (rw length-map h)
 
   -- All patterns of lives with the whole d.
   pub at_least_zero_against : (d : F) (ps : List F) → at_least (semi o) 0 (against o d ps) ≡ power o d (length ps)

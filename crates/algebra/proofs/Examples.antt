@@ -1,4 +1,5 @@
--- Checked examples: what the solver proves, and that sums over patterns compute. Assumes nothing.
+-- Checked examples: what the solver proves, and that sums over patterns compute. Nothing cites them: each shows by itself
+-- that it is proved. Assumes nothing.
 use Rattle.std.proofs.Common.{◌≡◌, ℕ, List, [], ◌∷◌, refl}
 use Rattle.algebra.specs.Ring.{Ops, Laws, Semi}
 use Rattle.algebra.specs.Patterns.{Life, exactly, at_least, naturals}
@@ -34,10 +35,6 @@ module _ {F : Type 0} {o : Ops F} (L : Laws o) where
   -- Any term may be an atom.
   any_atom : (f : ℕ → F) (n : ℕ) (a : F) → f n · (a - f n) + f n · f n ≡ a · f n
   any_atom f n a = ring L (f n ∷ a ∷ []) (search made depth 40 fits 100000) tt
-
-  -- The second part of (a + b·e)·(c + d·e)·(f + g·e), where e·e = 0.
-  dual_assoc : (a b c d f g : F) → (a · c) · g + (a · d + b · c) · f ≡ a · (c · g + d · f) + b · (c · f)
-  dual_assoc a b c d f g = ring L (a ∷ b ∷ c ∷ d ∷ f ∷ g ∷ []) (search made depth 40 fits 100000) tt
 
   four_squares : (a b c d e f g h : F) →
       (a · a + b · b + c · c + d · d) · (e · e + f · f + g · g + h · h)

@@ -1,22 +1,19 @@
 -- How the sums over survival patterns change with one life more or less, over any commutative semiring. Assumes nothing.
-use Rattle.std.proofs.Common.{◌≡◌, ℕ, zero, suc, ◌+◌, ◌<◌, Bool, true, false, cond, eqb, leb, List, [], ◌∷◌, ◌++◌, map, length, sym, refl, ap, ◌∙◌, subst, ap₂, le_of_suc-le-suc, not-suc-le-zero, add-one, arith}
+use Rattle.std.proofs.Common.{◌≡◌, ℕ, zero, suc, ◌<◌, Bool, true, false, cond, eqb, leb, List, [], ◌∷◌, ◌++◌, map, length, sym, refl, ap, ◌∙◌, subst, ap₂, le_of_suc-le-suc, not-suc-le-zero, arith}
 use mathlib.Core.Path.{fun_ext}
 use lib.Dec.{eqb-zero-suc, eqb-suc-zero, eqb-suc-suc, leb-zero, leb-suc-zero, leb-suc-suc}
 use Rattle.algebra.specs.Ring.{Semi}
 use Rattle.algebra.specs.Patterns.{Life, patterns, survivors, kept, total, weight, weights, exactly, at_least}
-use Rattle.algebra.proofs.Semiring.{SemiLaws}
+use Rattle.algebra.proofs.Semiring.{SemiLaws, zero_plus}
 use Rattle.algebra.proofs.Solver.{semiring, made}
 
 module _ {F : Type 0} {s : Semi F} (L : SemiLaws s) where
-  zero_plus : (x : F) → s.plus s.zero x ≡ x
-  zero_plus x = semiring L (x ∷ []) (search made depth 40 fits 100000) tt
-
   -- The sum over those of the patterns ps that pass the test.
   abbrev over : List (Life F) → (List Bool → Bool) → List (List Bool) → F
   over ls test ps = total s (map (weight s ls) (kept test ps))
 
   over_append : (ls : List (Life F)) (test : List Bool → Bool) (ps qs : List (List Bool)) → over ls test (ps ++ qs) ≡ s.plus (over ls test ps) (over ls test qs)
-  over_append ls test [] qs = sym (zero_plus (over ls test qs))
+  over_append ls test [] qs = sym (zero_plus L (over ls test qs))
   over_append ls test (p ∷ ps) qs = step (test p) (over_append ls test ps qs)
     where
       step : (b : Bool) → over ls test (ps ++ qs) ≡ s.plus (over ls test ps) (over ls test qs) → total s (map (weight s ls) (cond b (p ∷ kept test (ps ++ qs)) (kept test (ps ++ qs)))) ≡ s.plus (total s (map (weight s ls) (cond b (p ∷ kept test ps) (kept test ps)))) (over ls test qs)
@@ -38,12 +35,12 @@ module _ {F : Type 0} {s : Semi F} (L : SemiLaws s) where
       step false e = e
 
   -- One life in front, for any test on patterns.
-  pub weights_cons : (test : List Bool → Bool) (l : Life F) (ls : List (Life F)) → weights s test (l ∷ ls) ≡ s.plus (s.times l.alive (weights s (λ p. test (true ∷ p)) ls)) (s.times l.dead (weights s (λ p. test (false ∷ p)) ls))
+  weights_cons : (test : List Bool → Bool) (l : Life F) (ls : List (Life F)) → weights s test (l ∷ ls) ≡ s.plus (s.times l.alive (weights s (λ p. test (true ∷ p)) ls)) (s.times l.dead (weights s (λ p. test (false ∷ p)) ls))
   weights_cons test l ls =
       let ps = patterns (length ls) in
       over_append (l ∷ ls) test (map (λ p. true ∷ p) ps) (map (λ p. false ∷ p) ps) ∙ ap₂ s.plus (over_marked l ls true test ps) (over_marked l ls false test ps)
 
-  pub weights_same : (f g : List Bool → Bool) → ((p : List Bool) → f p ≡ g p) → (ls : List (Life F)) → weights s f ls ≡ weights s g ls
+  weights_same : (f g : List Bool → Bool) → ((p : List Bool) → f p ≡ g p) → (ls : List (Life F)) → weights s f ls ≡ weights s g ls
   weights_same f g e ls = ap (λ test. weights s test ls) (fun_ext e)
 
   none_pass : (ls : List (Life F)) (ps : List (List Bool)) → over ls (λ _. false) ps ≡ s.zero
@@ -51,14 +48,14 @@ module _ {F : Type 0} {s : Semi F} (L : SemiLaws s) where
   none_pass ls (p ∷ ps) = none_pass ls ps
 
   -- Nothing passes, so the sum is zero.
-  pub weights_none : (test : List Bool → Bool) → ((p : List Bool) → test p ≡ false) → (ls : List (Life F)) → weights s test ls ≡ s.zero
+  weights_none : (test : List Bool → Bool) → ((p : List Bool) → test p ≡ false) → (ls : List (Life F)) → weights s test ls ≡ s.zero
   weights_none test e ls = weights_same test (λ _. false) e ls ∙ none_pass ls (patterns (length ls))
 
   -- No lives.
   pub exactly_zero_nil : exactly s 0 [] ≡ s.one
   exactly_zero_nil = L.plus_zero s.one
 
-  pub exactly_suc_nil : (k : ℕ) → exactly s (suc k) [] ≡ s.zero
+  exactly_suc_nil : (k : ℕ) → exactly s (suc k) [] ≡ s.zero
   exactly_suc_nil k = ap (λ b. total s (map (weight s []) (cond b ([] ∷ []) []))) (eqb-zero-suc k)
 
   pub at_least_zero_nil : at_least s 0 [] ≡ s.one
@@ -72,9 +69,9 @@ module _ {F : Type 0} {s : Semi F} (L : SemiLaws s) where
   exactly_zero_cons l ls =
       let a = l.alive in
       let e : s.times a (weights s (λ p. eqb (suc (survivors p)) 0) ls) ≡ s.zero = ap (s.times a) (weights_none (λ p. eqb (suc (survivors p)) 0) (λ p. eqb-suc-zero (survivors p)) ls) ∙ L.times_zero a in
-      weights_cons (λ p. eqb (survivors p) 0) l ls ∙ ap (λ x. s.plus x (s.times l.dead (exactly s 0 ls))) e ∙ zero_plus (s.times l.dead (exactly s 0 ls))
+      weights_cons (λ p. eqb (survivors p) 0) l ls ∙ ap (λ x. s.plus x (s.times l.dead (exactly s 0 ls))) e ∙ zero_plus L (s.times l.dead (exactly s 0 ls))
 
-  pub exactly_suc_cons : (k : ℕ) (l : Life F) (ls : List (Life F)) → exactly s (suc k) (l ∷ ls) ≡ s.plus (s.times l.alive (exactly s k ls)) (s.times l.dead (exactly s (suc k) ls))
+  exactly_suc_cons : (k : ℕ) (l : Life F) (ls : List (Life F)) → exactly s (suc k) (l ∷ ls) ≡ s.plus (s.times l.alive (exactly s k ls)) (s.times l.dead (exactly s (suc k) ls))
   exactly_suc_cons k l ls = weights_cons (λ p. eqb (survivors p) (suc k)) l ls ∙ ap (λ x. s.plus (s.times l.alive x) (s.times l.dead (exactly s (suc k) ls))) (weights_same (λ p. eqb (suc (survivors p)) (suc k)) (λ p. eqb (survivors p) k) (λ p. eqb-suc-suc (survivors p) k) ls)
 
   pub at_least_zero_cons : (l : Life F) (ls : List (Life F)) → at_least s 0 (l ∷ ls) ≡ s.times (s.plus l.alive l.dead) (at_least s 0 ls)
@@ -89,20 +86,10 @@ module _ {F : Type 0} {s : Semi F} (L : SemiLaws s) where
 
 -- What exactly and at least have in common: the steps for one life in front, with c = 0 for exactly and c = 1 for at least.
 record Stepped {F : Type 0} (s : Semi F) (c : F) (E : ℕ → List (Life F) → F) : Type 0 where
-  nil : (k : ℕ) → E (suc k) [] ≡ s.zero
   zero_cons : (l : Life F) (ls : List (Life F)) → E 0 (l ∷ ls) ≡ s.times (s.plus (s.times c l.alive) l.dead) (E 0 ls)
   suc_cons : (k : ℕ) (l : Life F) (ls : List (Life F)) → E (suc k) (l ∷ ls) ≡ s.plus (s.times l.alive (E k ls)) (s.times l.dead (E (suc k) ls))
 
 module _ {F : Type 0} {s : Semi F} (L : SemiLaws s) {c : F} {E : ℕ → List (Life F) → F} (S : Stepped s c E) where
-  stepped_beyond : (k : ℕ) (ls : List (Life F)) → length ls < k → E k ls ≡ s.zero
-  stepped_beyond zero ls h = absurd (not-suc-le-zero h)
-  stepped_beyond (suc k) [] h = S.nil k
-  stepped_beyond (suc k) (l ∷ ls) h =
-      let below : length ls < k = le_of_suc-le-suc h in
-      S.suc_cons k l ls
-      ∙ ap₂ (λ x y. s.plus (s.times l.alive x) (s.times l.dead y)) (stepped_beyond k ls below) (stepped_beyond (suc k) ls (omega arith))
-      ∙ semiring L (l.alive ∷ l.dead ∷ []) (search made depth 40 fits 100000) tt
-
   -- The lists behind the life l, and before it, go through the same step.
   module _ (l : Life F) (ys : List (Life F)) where
     stepped_zero_at : (xs : List (Life F)) → E 0 (xs ++ (l ∷ ys)) ≡ s.times (s.plus (s.times c l.alive) l.dead) (E 0 (xs ++ ys))
@@ -131,24 +118,24 @@ module _ {F : Type 0} {s : Semi F} (L : SemiLaws s) {c : F} {E : ℕ → List (L
 module _ {F : Type 0} {s : Semi F} (L : SemiLaws s) where
   stepped_exactly : Stepped s s.zero (exactly s)
   stepped_exactly = record {
-    nil = exactly_suc_nil L;
     zero_cons = λ l ls. exactly_zero_cons L l ls ∙ semiring L (l.alive ∷ l.dead ∷ exactly s 0 ls ∷ []) (search made depth 40 fits 100000) tt;
     suc_cons = exactly_suc_cons L;
   }
 
   stepped_at_least : Stepped s s.one (at_least s)
   stepped_at_least = record {
-    nil = at_least_suc_nil L;
     zero_cons = λ l ls. at_least_zero_cons L l ls ∙ semiring L (l.alive ∷ l.dead ∷ at_least s 0 ls ∷ []) (search made depth 40 fits 100000) tt;
     suc_cons = at_least_suc_cons L;
   }
 
   -- More alive than there are lives.
   pub exactly_beyond : (k : ℕ) (ls : List (Life F)) → length ls < k → exactly s k ls ≡ s.zero
-  exactly_beyond = stepped_beyond L stepped_exactly
-
-  pub at_least_beyond : (k : ℕ) (ls : List (Life F)) → length ls < k → at_least s k ls ≡ s.zero
-  at_least_beyond = stepped_beyond L stepped_at_least
+  exactly_beyond zero ls h = absurd (not-suc-le-zero h)
+  exactly_beyond (suc k) [] h = exactly_suc_nil L k
+  exactly_beyond (suc k) (l ∷ ls) h =
+      exactly_suc_cons L k l ls
+      ∙ ap₂ (λ x y. s.plus (s.times l.alive x) (s.times l.dead y)) (exactly_beyond k ls (le_of_suc-le-suc h)) (exactly_beyond (suc k) ls (omega arith))
+      ∙ semiring L (l.alive ∷ l.dead ∷ []) (search made depth 40 fits 100000) tt
 
   -- A life anywhere; with ys = [], at the end.
   module _ (l : Life F) (xs ys : List (Life F)) where
@@ -158,17 +145,8 @@ module _ {F : Type 0} {s : Semi F} (L : SemiLaws s) where
     pub exactly_suc_at : (k : ℕ) → exactly s (suc k) (xs ++ (l ∷ ys)) ≡ s.plus (s.times l.alive (exactly s k (xs ++ ys))) (s.times l.dead (exactly s (suc k) (xs ++ ys)))
     exactly_suc_at k = stepped_suc_at L stepped_exactly l ys k xs
 
-    pub exactly_more_at : (k : ℕ) → exactly s (k + 1) (xs ++ (l ∷ ys)) ≡ s.plus (s.times l.alive (exactly s k (xs ++ ys))) (s.times l.dead (exactly s (k + 1) (xs ++ ys)))
-    exactly_more_at k = rw add-one (exactly_suc_at k)
-
-    pub at_least_zero_at : at_least s 0 (xs ++ (l ∷ ys)) ≡ s.times (s.plus l.alive l.dead) (at_least s 0 (xs ++ ys))
-    at_least_zero_at = stepped_zero_at L stepped_at_least l ys xs ∙ semiring L (l.alive ∷ l.dead ∷ at_least s 0 (xs ++ ys) ∷ []) (search made depth 40 fits 100000) tt
-
     pub at_least_suc_at : (k : ℕ) → at_least s (suc k) (xs ++ (l ∷ ys)) ≡ s.plus (s.times l.alive (at_least s k (xs ++ ys))) (s.times l.dead (at_least s (suc k) (xs ++ ys)))
     at_least_suc_at k = stepped_suc_at L stepped_at_least l ys k xs
-
-    pub at_least_more_at : (k : ℕ) → at_least s (k + 1) (xs ++ (l ∷ ys)) ≡ s.plus (s.times l.alive (at_least s k (xs ++ ys))) (s.times l.dead (at_least s (k + 1) (xs ++ ys)))
-    at_least_more_at k = rw add-one (at_least_suc_at k)
 
   -- At least k is exactly k, or more.
   pub at_least_split : (k : ℕ) (ls : List (Life F)) → at_least s k ls ≡ s.plus (exactly s k ls) (at_least s (suc k) ls)
@@ -190,6 +168,3 @@ module _ {F : Type 0} {s : Semi F} (L : SemiLaws s) where
       ∙ ap₂ (λ x y. s.plus (s.times a x) (s.times d y)) (at_least_split k ls) (at_least_split (suc k) ls)
       ∙ semiring L (a ∷ d ∷ exactly s k ls ∷ exactly s (suc k) ls ∷ at_least s (suc k) ls ∷ at_least s (suc (suc k)) ls ∷ []) (search made depth 40 fits 100000) tt
       ∙ sym (ap₂ s.plus (exactly_suc_cons L k l ls) (at_least_suc_cons L (suc k) l ls))
-
-  pub at_least_split_more : (k : ℕ) (ls : List (Life F)) → at_least s k ls ≡ s.plus (exactly s k ls) (at_least s (k + 1) ls)
-  at_least_split_more k ls = rw add-one (at_least_split k ls)

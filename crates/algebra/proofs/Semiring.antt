@@ -13,6 +13,9 @@ pub record SemiLaws {F : Type 0} (s : Semi F) : Type 0 where
   pub times_zero : (x : F) → s.times x s.zero ≡ s.zero
   pub times_plus : (x y z : F) → s.times x (s.plus y z) ≡ s.plus (s.times x y) (s.times x z)
 
+pub zero_plus : {F : Type 0} {s : Semi F} → SemiLaws s → (x : F) → s.plus s.zero x ≡ x
+zero_plus {s = s} L x = L.plus_comm s.zero x ∙ L.plus_zero x
+
 module _ {F : Type 0} {o : Ops F} (L : Laws o) where
   -- Subtracting what was added.
   pub plus_undo : (x y : F) → o.plus (o.plus x y) (o.minus y) ≡ x
@@ -21,15 +24,12 @@ module _ {F : Type 0} {o : Ops F} (L : Laws o) where
   pub plus_cancel : (x y z : F) → o.plus x z ≡ o.plus y z → x ≡ y
   plus_cancel x y z e = sym (plus_undo x z) ∙ ap (λ w. o.plus w (o.minus z)) e ∙ plus_undo y z
 
-  pub zero_plus : (x : F) → o.plus o.zero x ≡ x
-  zero_plus x = L.plus_comm o.zero x ∙ L.plus_zero x
-
   -- x·0 + x·0 = x·0 = 0 + x·0.
   times_nothing : (x : F) → o.times x o.zero ≡ o.zero
   times_nothing x =
       let z = o.times x o.zero in
       let twice : o.plus z z ≡ z = sym (L.times_plus x o.zero o.zero) ∙ ap (o.times x) (L.plus_zero o.zero) in
-      plus_cancel z o.zero z (twice ∙ sym (zero_plus z))
+      plus_cancel z o.zero z (twice ∙ sym (L.plus_comm o.zero z ∙ L.plus_zero z))
 
   pub laws_semi : SemiLaws (semi o)
   laws_semi = record {

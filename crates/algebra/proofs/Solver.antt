@@ -3,7 +3,7 @@
 -- with the atoms in the list; `semiring` is called the same way. Assumes nothing.
 use Rattle.std.proofs.Common.{◌≡◌, ℕ, zero, suc, Bool, true, false, cond, T, eqb, leb, List, [], ◌∷◌, ◌++◌, get_or, sym, refl, ap, ◌∙◌, subst, ap₂, subst₂, eqb→eq}
 use Rattle.algebra.specs.Ring.{Ops, Laws, Semi, semi}
-use Rattle.algebra.proofs.Semiring.{SemiLaws, laws_semi, plus_undo, plus_cancel}
+use Rattle.algebra.proofs.Semiring.{SemiLaws, zero_plus, laws_semi, plus_undo, plus_cancel}
 
 -- How a value is made from the atoms xs. The family is indexed by the value, so that `search` reads the expression off it.
 pub data Member {F : Type 0} : List F → F → Type 0 where
@@ -154,7 +154,7 @@ module _ {F : Type 0} {s : Semi F} (L : SemiLaws s) where
     join_value (m ∷ ms) ns = insert_value m (join ms ns) ∙ ap (s.times (at m)) (join_value ms ns) ∙ sym (L.times_assoc (at m) (value_of s xs ms) (value_of s xs ns))
 
     append_value : (p q : Polynomial) → sum_of s xs (p ++ q) ≡ s.plus (sum_of s xs p) (sum_of s xs q)
-    append_value [] q = sym (L.plus_comm s.zero (sum_of s xs q) ∙ L.plus_zero (sum_of s xs q))
+    append_value [] q = sym (zero_plus L (sum_of s xs q))
     append_value (m ∷ p) q = ap (s.plus (value_of s xs m)) (append_value p q) ∙ sym (L.plus_assoc (value_of s xs m) (sum_of s xs p) (sum_of s xs q))
 
     scale_value : (m : Monomial) (q : Polynomial) → sum_of s xs (scale m q) ≡ s.times (value_of s xs m) (sum_of s xs q)
@@ -188,7 +188,7 @@ module _ {F : Type 0} {s : Semi F} (L : SemiLaws s) where
         go missing e there-is none h = turned ∙ sym (L.plus_assoc (value_of s xs m) (sum_of s xs aside) (sum_of s xs p)) ∙ none h
 
     equal_value : (p q : Polynomial) → Equal p q → sum_of s xs p ≡ sum_of s xs q
-    equal_value p q h = sym (L.plus_comm s.zero (sum_of s xs p) ∙ L.plus_zero (sum_of s xs p)) ∙ compare_value [] p q h
+    equal_value p q h = sym (zero_plus L (sum_of s xs p)) ∙ compare_value [] p q h
 
   place_value : {xs : List F} {x : F} (m : Member xs x) → at xs (place m) ≡ x
   place_value here = refl

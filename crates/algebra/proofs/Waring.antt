@@ -7,7 +7,7 @@ use Rattle.algebra.specs.Patterns.{exactly, at_least}
 use Rattle.algebra.specs.Binomial.{choose}
 use Rattle.algebra.specs.Sums.{power, multiple, elementary, against}
 use Rattle.algebra.specs.Waring.{signed, sum_to, alternating, WaringExactly, WaringAtLeast}
-use Rattle.algebra.proofs.Semiring.{laws_semi}
+use Rattle.algebra.proofs.Semiring.{laws_semi, plus_undo}
 use Rattle.algebra.proofs.Solver.{ring, made}
 use Rattle.algebra.proofs.Binomial.{ways, ways_choose}
 use Rattle.algebra.proofs.Patterns.{at_least_suc_nil, at_least_suc_cons, at_least_split}
@@ -37,10 +37,7 @@ module _ {F : Type 0} (o : Ops F) (d : F) where
   abbrev pub entry : List F → ℕ → ℕ → F
   entry ps j k = tail_sum j (λ r. elementary o r ps) (suc (length ps)) k
 
--- The loop's steps, for an index t + 1.
-pub signed_more : {F : Type 0} (o : Ops F) (t : ℕ) (x : F) → signed o (t + 1) x ≡ o.minus (signed o t x)
-signed_more o t x = rw add-one
-
+-- The loop's step, for an index t + 1.
 pub horner_more : {F : Type 0} (o : Ops F) (d : F) (f : ℕ → F) (t : ℕ) → horner o d f (t + 1) ≡ o.plus (o.times (horner o d f t) d) (f t)
 horner_more o d f t = rw add-one
 
@@ -134,6 +131,10 @@ module _ {F : Type 0} {o : Ops F} (L : Laws o) where
     tail_horner j g (suc k) m zero e = absurd (omega arith)
     tail_horner j g (suc k) m (suc n) e = tail_horner j (λ t. g (suc t)) k m n (omega arith) ∙ ap (λ h. horner o d (term o j h) (suc m)) (fun_ext (λ t. ap g (sym (suc-add k t))))
 
+    -- The table: one pass more.
+    pub entry_step : (ps : List F) (j k : ℕ) → entry o d ps (suc j) k ≡ o.plus (entry o d ps j k) (o.minus (entry o d ps (suc j) (suc k)))
+    entry_step ps j k = tail_step j (λ r. elementary o r ps) (suc (length ps)) k
+
     -- One life more: its figure p takes part in the elementary sums.
     entry_cons : (p : F) (ps : List F) (j k : ℕ) → entry o d (p ∷ ps) j (suc k) ≡ o.plus (o.times (entry o d ps j (suc k)) d) (o.times p (entry o d ps j k))
     entry_cons p ps j k =
@@ -153,25 +154,21 @@ module _ {F : Type 0} {o : Ops F} (L : Laws o) where
         at_least_suc_cons (laws_semi L) k (record { alive = p; dead = o.plus d (o.minus p) }) (against o d ps)
         ∙ ap₂ (λ u v. o.plus (o.times p u) (o.times (o.plus d (o.minus p)) v)) (at_least_entry ps k) (at_least_entry ps (suc k))
         ∙ ring L (p ∷ d ∷ x ∷ y ∷ []) (search made depth 40 fits 100000) tt
-        ∙ ap (λ z. o.plus (o.times y d) (o.times p z)) (sym (tail_step k (λ r. elementary o r ps) (suc (length ps)) k))
+        ∙ ap (λ z. o.plus (o.times y d) (o.times p z)) (sym (entry_step ps k k))
         ∙ sym (entry_cons p ps (suc k) k)
 
     pub exactly_entry : (ps : List F) (k : ℕ) → exactly (semi o) k (against o d ps) ≡ entry o d ps (suc k) k
     exactly_entry ps k =
         let e = exactly (semi o) k (against o d ps) in
         let more = at_least (semi o) (suc k) (against o d ps) in
-        let undo : e ≡ o.plus (o.plus e more) (o.minus more) = ring L (e ∷ more ∷ []) (search made depth 40 fits 100000) tt in
-        undo
+        sym (plus_undo L e more)
         ∙ ap (λ x. o.plus x (o.minus more)) (sym (at_least_split (laws_semi L) k (against o d ps)))
         ∙ ap₂ (λ x y. o.plus x (o.minus y)) (at_least_entry ps k) (at_least_entry ps (suc k))
-        ∙ sym (tail_step k (λ r. elementary o r ps) (suc (length ps)) k)
+        ∙ sym (entry_step ps k k)
 
-    -- The table: no pass, one pass more, the last place, and past it.
+    -- No pass, the last place, and past it.
     pub entry_none : (ps : List F) (k m : ℕ) → k + m ≡ length ps → entry o d ps 0 k ≡ o.times (elementary o k ps) (power o d m)
     entry_none ps k m e = tail_none (λ r. elementary o r ps) k m (length ps) e
-
-    pub entry_step : (ps : List F) (j k : ℕ) → entry o d ps (suc j) k ≡ o.plus (entry o d ps j k) (o.minus (entry o d ps (suc j) (suc k)))
-    entry_step ps j k = tail_step j (λ r. elementary o r ps) (suc (length ps)) k
 
     pub entry_last : (ps : List F) (j : ℕ) → entry o d ps j (length ps) ≡ elementary o (length ps) ps
     entry_last ps j = tail_last j (λ r. elementary o r ps) (length ps)
@@ -182,13 +179,6 @@ module _ {F : Type 0} {o : Ops F} (L : Laws o) where
     pub entry_horner : (ps : List F) (j k m : ℕ) → k + m ≡ length ps → entry o d ps j k ≡ horner o d (summand o ps j k) (suc m)
     entry_horner ps j k m e = tail_horner j (λ r. elementary o r ps) k m (length ps) e
 
-    -- What a loop over the elementary sums computes.
-    pub exactly_horner : (ps : List F) (k m : ℕ) → k + m ≡ length ps → exactly (semi o) k (against o d ps) ≡ horner o d (summand o ps (suc k) k) (suc m)
-    exactly_horner ps k m e = exactly_entry ps k ∙ entry_horner ps (suc k) k m e
-
-    pub at_least_horner : (ps : List F) (k m : ℕ) → k + m ≡ length ps → at_least (semi o) k (against o d ps) ≡ horner o d (summand o ps k k) (suc m)
-    at_least_horner ps k m e = at_least_entry ps k ∙ entry_horner ps k k m e
-
     sum_to_same : (m : ℕ) (f g : ℕ → F) → ((t : ℕ) → t ≤ m → f t ≡ g t) → sum_to o m f ≡ sum_to o m g
     sum_to_same zero f g e = e 0 (omega arith)
     sum_to_same (suc m) f g e = ap₂ o.plus (sum_to_same m f g (λ t h. e t (omega arith))) (e (suc m) (omega arith))
@@ -197,7 +187,7 @@ module _ {F : Type 0} {o : Ops F} (L : Laws o) where
     sum_to_times zero f = refl
     sum_to_times (suc m) f = ring L (d ∷ sum_to o m f ∷ f (suc m) ∷ []) (search made depth 40 fits 100000) tt ∙ ap (λ x. o.plus x (o.times (f (suc m)) d)) (sum_to_times m f)
 
-    pub horner_sum : (f : ℕ → F) (m : ℕ) → horner o d f (suc m) ≡ sum_to o m (λ t. o.times (f t) (power o d (m - t)))
+    horner_sum : (f : ℕ → F) (m : ℕ) → horner o d f (suc m) ≡ sum_to o m (λ t. o.times (f t) (power o d (m - t)))
     horner_sum f zero = ring L (d ∷ f 0 ∷ []) (search made depth 40 fits 100000) tt
     horner_sum f (suc m) = ap₂ o.plus (ap (λ x. o.times x d) (horner_sum f m) ∙ sum_to_times m _ ∙ sum_to_same m _ _ raised) last
       where

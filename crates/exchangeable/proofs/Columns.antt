@@ -1,15 +1,14 @@
 -- What the passes over a column, and over a row of binomials, leave. Assumes nothing.
-use Rattle.std.proofs.Common.{◌≡◌, ℕ, zero, suc, ◌+◌, ◌-◌, ◌^◌, ◌<◌, ◌≤◌, ◌⊎◌, List, [], ◌∷◌, length, ◌++◌, get_or, take, drop, ℤ, ◌-ℤ◌, nat_abs, refl, sym, ◌∙◌, ap, ap₂, inl, inr, pow-suc, arith, pow_mono, w64, SFits, to_z, of_z}
-use Rattle.std.proofs.lemmas.Nat.{pow_pos}
+use Rattle.std.proofs.Common.{◌≡◌, ℕ, zero, suc, ◌+◌, ◌-◌, ◌^◌, ◌<◌, ◌≤◌, ◌⊎◌, List, [], ◌∷◌, length, ◌++◌, get_or, take, drop, ℤ, ◌-ℤ◌, nat_abs, refl, sym, ◌∙◌, ap, ap₂, inl, inr, arith, w64, SFits, to_z, of_z}
 use Rattle.std.proofs.lemmas.List.{get_or_past, get_or_append_left, get_or-take}
 use Rattle.std.proofs.lemmas.Int.{ints, to_z-of_z}
 use Rattle.std.proofs.lemmas.Bool.{cases_lt}
 use Rattle.std.proofs.lemmas.Grind.{elements}
 use Rattle.algebra.specs.Binomial.{choose}
+use Rattle.algebra.proofs.Binomial.{choose_beyond}
 use Rattle.exchangeable.specs.Answer.{Admitted}
 use Rattle.exchangeable.specs.Events.{value}
 use Rattle.exchangeable.proofs.Differences.{value_size, value_step}
-use Rattle.exchangeable.proofs.Sums.{choose_past}
 
 pub all_small : (u : List ℕ) → Admitted u → (j : ℕ) → get_or u j 0 ≤ 2 ^ 30
 all_small u a j =
@@ -20,10 +19,10 @@ all_small u a j =
 sfits : (z : ℤ) → nat_abs z ≤ 2 ^ 62 → SFits w64 z
 sfits z h = omega (arith, ints)
 
-pub value_fits : (u : List ℕ) → Admitted u → (k m : ℕ) → m < length u → SFits w64 (value u k m)
+value_fits : (u : List ℕ) → Admitted u → (k m : ℕ) → m < length u → SFits w64 (value u k m)
 value_fits u a k m l = sfits _ (value_size u (all_small u a) k m (omega (arith, a.0.1)))
 
--- one step of the pass
+-- One step of the pass.
 module _ (u : List ℕ) (a : Admitted u) (m k : ℕ) (lt : m < length u) (up : 0 < k) (le : k ≤ m) (x y : ℤ)
     (old : x ≡ value u (k - 1) (m - 1)) (new : y ≡ value u k m) where
   taken : to_z w64 (of_z w64 x) -ℤ y ≡ value u (k - 1) m
@@ -38,29 +37,17 @@ module _ (u : List ℕ) (a : Admitted u) (m k : ℕ) (lt : m < length u) (up : 0
   pub taken_back : to_z w64 (of_z w64 (to_z w64 (of_z w64 x) -ℤ y)) ≡ value u (k - 1) m
   taken_back = to_z-of_z w64 _ taken_fits ∙ taken
 
--- C(n, k) is at most 2^(n − 1), where n is not 0
-choose_size : (n k : ℕ) → choose (suc n) k ≤ 2 ^ n
-choose_size n zero = omega (arith, pow_pos n)
-choose_size zero (suc zero) = omega arith
-choose_size zero (suc (suc k)) = omega arith
-choose_size (suc n) (suc k) = rw (pow-suc 2 n) (omega (arith, choose_size n k, choose_size n (suc k)))
-
-pub choose_small : (n k : ℕ) → n ≤ 32 → choose n k ≤ 2 ^ 31
-choose_small zero zero h = omega arith
-choose_small zero (suc k) h = omega arith
-choose_small (suc n) k h = omega (arith, choose_size n k, pow_mono {i = n} {j = 31} (omega arith))
-
-pub choose_all : (n : ℕ) → choose n n ≡ 1
+choose_all : (n : ℕ) → choose n n ≡ 1
 choose_all zero = refl
-choose_all (suc n) = omega (arith, choose_all n, choose_past n (suc n) (omega arith))
+choose_all (suc n) = omega (arith, choose_all n, choose_beyond n (suc n) (omega arith))
 
--- what stands between the ones of a row of the triangle
+-- What stands between the ones of a row of the triangle.
 pub inner : (row : List ℕ) (n k : ℕ) → ((j : ℕ) → j < n → get_or row j 0 ≡ choose (n - 1) j) → k < n - 1
     → get_or (take (n - 1) (drop 1 row)) k 0 ≡ choose (n - 1) (suc k)
 inner [] n k old l = get_or-take (n - 1) [] k 0 l ∙ old (suc k) (omega arith)
 inner (x ∷ xs) n k old l = get_or-take (n - 1) xs k 0 l ∙ old (suc k) (omega arith)
 
--- from a row with a 1 at its end to the next
+-- From a row with a 1 at its end to the next.
 pub next_row : (row new : List ℕ) (n : ℕ) → n < length row → 0 < n
     → ((k : ℕ) → k < n → get_or row k 0 ≡ choose (n - 1) k) → get_or row n 0 ≡ 1 → length new ≡ n - 1
     → ((k : ℕ) → k < n - 1 → get_or new k 0 ≡ get_or (1 ∷ take (n - 1) (drop 1 row)) k 0 + get_or (take (n - 1) (drop 1 row)) k 0)

@@ -1,10 +1,11 @@
 -- Sums with binomial coefficients, by Pascal's rule. Assumes nothing.
-use Rattle.std.proofs.Common.{◌≡◌, ℕ, zero, suc, ◌+◌, ◌*◌, ◌<◌, ℤ, pos, negsuc, ◌+ℤ◌, ◌*ℤ◌, neg_ℤ, sym, refl, ap, ◌∙◌, add-mul, mul-zero, arith}
+use Rattle.std.proofs.Common.{◌≡◌, ℕ, zero, suc, ◌+◌, ◌*◌, ℤ, pos, negsuc, ◌+ℤ◌, ◌*ℤ◌, neg_ℤ, sym, refl, ap, ◌∙◌, add-mul, mul-zero, arith}
 use mathlib.Core.Path.{fun_ext}
-use lib.IntN.{neg_ℤ-neg_ℤ, neg_ℤ-+ℤ, zero-*ℤ}
+use lib.IntN.{+ℤ_idr, neg_ℤ-neg_ℤ, neg_ℤ-+ℤ, zero-*ℤ}
 use Rattle.std.proofs.lemmas.Int.{ints}
 use Rattle.algebra.specs.Binomial.{choose}
 use Rattle.algebra.specs.Waring.{sum_to}
+use Rattle.algebra.proofs.Binomial.{choose_beyond}
 use Rattle.exchangeable.specs.Events.{integers}
 
 pos_add_mul : (a b : ℕ) (x : ℤ) → pos (a + b) *ℤ x ≡ pos a *ℤ x +ℤ pos b *ℤ x
@@ -17,22 +18,12 @@ pos_mul_neg a (pos zero) = rw mul-zero
 pos_mul_neg a (pos (suc n)) = refl
 pos_mul_neg a (negsuc n) = sym (neg_ℤ-neg_ℤ (pos (a * suc n)))
 
-pub one_mul : (x : ℤ) → pos 1 *ℤ x ≡ x
-one_mul (pos n) = ap pos (omega arith)
-one_mul (negsuc n) = ap (λ z. neg_ℤ (pos z)) (let e : 1 * suc n ≡ suc n = omega arith in e)
-
 sum_neg : (m : ℕ) (f : ℕ → ℤ) → sum_to integers m (λ j. neg_ℤ (f j)) ≡ neg_ℤ (sum_to integers m f)
 sum_neg zero f = refl
 sum_neg (suc m) f = ap (λ z. z +ℤ neg_ℤ (f (suc m))) (sum_neg m f) ∙ sym (neg_ℤ-+ℤ (sum_to integers m f) (f (suc m)))
 
--- C(n, k) is 0 past n
-pub choose_past : (n k : ℕ) → n < k → choose n k ≡ 0
-choose_past n zero h = absurd (omega arith)
-choose_past zero (suc k) h = refl
-choose_past (suc n) (suc k) h = omega (arith, choose_past n k (omega arith), choose_past n (suc k) (omega arith))
-
--- the first n + 1 terms of the sum with the coefficients of t
-abbrev pub part : ℕ → ℕ → (ℕ → ℤ) → ℤ
+-- The first n + 1 terms of the sum with the coefficients of t.
+abbrev part : ℕ → ℕ → (ℕ → ℤ) → ℤ
 part t n g = sum_to integers n (λ j. pos (choose t j) *ℤ g j)
 
 regroup_first : (a b c x : ℤ) → x ≡ b +ℤ c → a +ℤ x ≡ (a +ℤ c) +ℤ b
@@ -47,18 +38,15 @@ part_more t (suc n) g =
     regroup _ (part t (suc n) g) (part t n (λ j. g (suc j))) (pos (choose t (suc n)) *ℤ g (suc (suc n)))
     (pos (choose t (suc (suc n))) *ℤ g (suc (suc n))) _ (part_more t n g) (pos_add_mul (choose t (suc n)) (choose t (suc (suc n))) (g (suc (suc n))))
 
--- the sum with all coefficients of t
+-- The sum with all coefficients of t.
 abbrev pub bin : ℕ → (ℕ → ℤ) → ℤ
 bin t g = part t t g
-
-drop_zero : (a x : ℤ) → x ≡ pos 0 → a +ℤ x ≡ a
-drop_zero a x e = omega (arith, ints)
 
 pub bin_more : (t : ℕ) (g : ℕ → ℤ) → bin (suc t) g ≡ bin t g +ℤ bin t (λ j. g (suc j))
 bin_more t g =
     let e : pos (choose t (suc t)) *ℤ g (suc t) ≡ pos 0 =
-    ap (λ c. pos c *ℤ g (suc t)) (choose_past t (suc t) (omega arith)) ∙ zero-*ℤ (g (suc t)) in
-    part_more t t g ∙ ap (λ z. z +ℤ part t t (λ j. g (suc j))) (drop_zero (part t t g) _ e)
+    ap (λ c. pos c *ℤ g (suc t)) (choose_beyond t (suc t) (omega arith)) ∙ zero-*ℤ (g (suc t)) in
+    part_more t t g ∙ ap (λ z. z +ℤ part t t (λ j. g (suc j))) (ap (λ z. part t t g +ℤ z) e ∙ +ℤ_idr (part t t g))
 
 pub bin_ext : (t : ℕ) (g h : ℕ → ℤ) → ((j : ℕ) → g j ≡ h j) → bin t g ≡ bin t h
 bin_ext t g h e = ap (bin t) (fun_ext e)

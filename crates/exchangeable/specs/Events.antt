@@ -23,9 +23,8 @@ value u k m = sum_to integers (m - k) (λ j. pos (choose (m - k) j) *ℤ signed 
 abbrev pub row : List ℕ → ℕ → List ℤ
 row u m = map (λ k. pos (choose m k) *ℤ value u k m) (range_with_len 0 (suc m))
 
--- Exchangeable events have the table u: there are whole numbers w_0 to w_n, none below zero (w_k is the weight of
--- each way in which k of the events occur and the others do not), with u_j the sum over k from j to n of
--- C(n − j, k − j) w_k, for every j up to n. (Here k is j + i.)
+-- Exchangeable events have the table u: with some whole numbers w_0 to w_n, none below zero, each u_j is the sum over k from j to
+-- n of C(n − j, k − j) w_k. (w_k weighs each way in which k of the events occur and the others do not. Here k is j + i.)
 abbrev pub HasEvents : List ℕ → Type 0
 HasEvents u =
     (w : ℕ → ℕ)

@@ -1,10 +1,10 @@
--- And is associative, and distributes over exclusive or: bit by bit. Assumes nothing.
+-- And distributes over exclusive or: bit by bit. Assumes nothing.
 use Rattle.std.specs.Prelude.{◌≡◌, ℕ, zero, suc, ◌+◌, ◌*◌, ◌/◌, ◌%◌, ◌<◌, bit_and, bit_xor, refl}
 use Rattle.std.proofs.Common.{sym, ap, ap₂, ◌∙◌, div-add-mod', mod-lt, not-suc-le-zero, le_of_suc-le-suc, lit<}
 use Rattle.std.proofs.Math.Arith.{bin_ind}
 use Rattle.std.proofs.lemmas.Nat.{and_shr, and_mod, xor_shr, xor_mod}
 
--- equal halves and equal last bits
+-- Equal halves and equal last bits.
 by_digits : {a b : ℕ} → a / 2 ≡ b / 2 → a % 2 ≡ b % 2 → a ≡ b
 by_digits {a} {b} hi lo = sym (div-add-mod' a 2) ∙ ap₂ (λ x y. x * 2 + y) hi lo ∙ div-add-mod' b 2
 
@@ -13,15 +13,6 @@ no_bit h = absurd (not-suc-le-zero (le_of_suc-le-suc (le_of_suc-le-suc h)))
 
 bit : (n : ℕ) → n % 2 < 2
 bit n = mod-lt n (lit< tt)
-
-bit_assoc : (x y z : ℕ) → x < 2 → y < 2 → z < 2 → bit_and (bit_and x y) z ≡ bit_and x (bit_and y z)
-bit_assoc zero y z hx hy hz = refl
-bit_assoc (suc zero) zero z hx hy hz = refl
-bit_assoc (suc zero) (suc zero) zero hx hy hz = refl
-bit_assoc (suc zero) (suc zero) (suc zero) hx hy hz = refl
-bit_assoc (suc zero) (suc zero) (suc (suc z)) hx hy hz = no_bit hz
-bit_assoc (suc zero) (suc (suc y)) z hx hy hz = no_bit hy
-bit_assoc (suc (suc x)) y z hx hy hz = no_bit hx
 
 bit_and_xor : (x y z : ℕ) → x < 2 → y < 2 → z < 2 → bit_and x (bit_xor y z) ≡ bit_xor (bit_and x y) (bit_and x z)
 bit_and_xor zero y z hx hy hz = refl
@@ -33,16 +24,6 @@ bit_and_xor (suc zero) (suc zero) (suc zero) hx hy hz = refl
 bit_and_xor (suc zero) (suc zero) (suc (suc z)) hx hy hz = no_bit hz
 bit_and_xor (suc zero) (suc (suc y)) z hx hy hz = no_bit hy
 bit_and_xor (suc (suc x)) y z hx hy hz = no_bit hx
-
-pub and_assoc : (a b c : ℕ) → bit_and (bit_and a b) c ≡ bit_and a (bit_and b c)
-and_assoc =
-    bin_ind (λ (n : ℕ). (b c : ℕ) → bit_and (bit_and n b) c ≡ bit_and n (bit_and b c)) (λ b c. refl)
-    (λ n ih b c. by_digits
-    (and_shr (bit_and n b) c 1 ∙ ap (λ x. bit_and x (c / 2)) (and_shr n b 1) ∙ ih (b / 2) (c / 2)
-    ∙ sym (and_shr n (bit_and b c) 1 ∙ ap (bit_and (n / 2)) (and_shr b c 1)))
-    (and_mod (bit_and n b) c 1 ∙ ap (λ x. bit_and x (c % 2)) (and_mod n b 1)
-    ∙ bit_assoc (n % 2) (b % 2) (c % 2) (bit n) (bit b) (bit c)
-    ∙ sym (and_mod n (bit_and b c) 1 ∙ ap (bit_and (n % 2)) (and_mod b c 1))))
 
 pub and_xor : (a b c : ℕ) → bit_and a (bit_xor b c) ≡ bit_xor (bit_and a b) (bit_and a c)
 and_xor =

@@ -6,7 +6,7 @@ use Rattle.algebra.proofs.Solver.{ring, made}
 use Rattle.figures.specs.Duals.{ops, dual}
 
 module _ {F : Type 0} {o : Ops F} (L : Laws o) where
-  -- the rates, where the law is more than the same law of the parts
+  -- The rates, where the law is more than the same law of the parts.
   rate_comm : (a b c e : F) → o.plus (o.times a e) (o.times b c) ≡ o.plus (o.times c b) (o.times e a)
   rate_comm a b c e = ring L (a ∷ b ∷ c ∷ e ∷ []) (search made depth 40 fits 100000) tt
 

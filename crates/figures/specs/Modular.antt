@@ -1,7 +1,8 @@
 -- The laws of arithmetic modulo m, once for every modulus and every type that holds such numbers. Assumes nothing.
-use Rattle.std.specs.Prelude.{◌≡◌, ℕ, ◌+◌, ◌-◌, ◌*◌, ◌/◌, ◌%◌, ◌<◌}
-use Rattle.std.proofs.Common.{sym, ap, ap₂, ◌∙◌, add_comm, add_assoc, add-zero, mul_comm, mul_assoc, mul-add, mod-eq_of_lt, div-add-mod', mul-one, arith}
-use Rattle.std.proofs.Math.Nat.{mod_self, mod-add-mod, add-mod-mod, add-mul-mod_self_right}
+use Rattle.std.specs.Prelude.{◌≡◌, ℕ, ◌+◌, ◌-◌, ◌*◌, ◌%◌, ◌<◌}
+use Rattle.std.proofs.Common.{sym, ap, ap₂, ◌∙◌, add_comm, add_assoc, add-zero, mul_comm, mul_assoc, mul-add, mod-eq_of_lt, mul-one, arith}
+use Rattle.std.proofs.lemmas.Nat.{mul-mod_second}
+use Rattle.std.proofs.Math.Nat.{mod_self, mod-add-mod, add-mod-mod}
 use Rattle.algebra.specs.Ring.{Ops, Laws}
 
 -- What makes `o` the arithmetic modulo m: a figure is told by its number, which lies below m, and the operations work on the numbers.
@@ -14,18 +15,12 @@ pub record Modular {F : Type 0} (m : ℕ) (number : F → ℕ) (o : Ops F) : Typ
   pub minus_is : (x : F) → number (o.minus x) ≡ (m - number x) % m
   pub times_is : (x y : F) → number (o.times x y) ≡ (number x * number y) % m
 
--- a remainder inside a product makes no difference
-pub mul_mod_mod : (a b m : ℕ) → a * (b % m) % m ≡ a * b % m
-mul_mod_mod a b m =
-    sym (ap (λ n. n % m) (ap (λ n. a * n) (sym (div-add-mod' b m)) ∙ mul-add a (b / m * m) (b % m) ∙ add_comm _ _ ∙ ap (λ n. a * (b % m) + n) (sym (mul_assoc a (b / m) m)))
-    ∙ add-mul-mod_self_right (a * (b % m)) (a * (b / m)) m)
-
 module _ {F : Type 0} (m : ℕ) (number : F → ℕ) (o : Ops F) (M : Modular m number o) where
   plus_mod : (x y z : F) → number (o.plus (o.plus x y) z) ≡ (number x + number y + number z) % m
   plus_mod x y z = M.plus_is _ _ ∙ ap (λ n. (n + number z) % m) (M.plus_is x y) ∙ mod-add-mod (number x + number y) m (number z)
 
   times_mod : (x y z : F) → number (o.times x (o.times y z)) ≡ number x * (number y * number z) % m
-  times_mod x y z = M.times_is _ _ ∙ ap (λ n. number x * n % m) (M.times_is y z) ∙ mul_mod_mod (number x) (number y * number z) m
+  times_mod x y z = M.times_is _ _ ∙ ap (λ n. number x * n % m) (M.times_is y z) ∙ mul-mod_second (number x) (number y * number z) m
 
   pub modular_laws : Laws o
   modular_laws = record {
@@ -37,9 +32,9 @@ module _ {F : Type 0} (m : ℕ) (number : F → ℕ) (o : Ops F) (M : Modular m 
         ∙ ap (λ n. n % m) (whole x) ∙ mod_self m ∙ sym M.zero_is);
     times_comm = λ x y. M.same _ _ (M.times_is x y ∙ ap (λ n. n % m) (mul_comm _ _) ∙ sym (M.times_is y x));
     times_assoc = λ x y z. M.same _ _ (M.times_is (o.times x y) z ∙ ap (λ n. n % m) (mul_comm _ _) ∙ ap (λ n. number z * n % m) (M.times_is x y)
-        ∙ mul_mod_mod (number z) (number x * number y) m ∙ ap (λ n. n % m) (mul_comm _ _ ∙ mul_assoc _ _ _) ∙ sym (times_mod x y z));
+        ∙ mul-mod_second (number z) (number x * number y) m ∙ ap (λ n. n % m) (mul_comm _ _ ∙ mul_assoc _ _ _) ∙ sym (times_mod x y z));
     times_one = λ x. M.same _ _ (M.times_is x o.one ∙ ap (λ n. number x * n % m) M.one_is ∙ ap (λ n. n % m) (mul-one _) ∙ mod-eq_of_lt (M.below x));
-    times_plus = λ x y z. M.same _ _ (M.times_is x (o.plus y z) ∙ ap (λ n. number x * n % m) (M.plus_is y z) ∙ mul_mod_mod (number x) (number y + number z) m
+    times_plus = λ x y z. M.same _ _ (M.times_is x (o.plus y z) ∙ ap (λ n. number x * n % m) (M.plus_is y z) ∙ mul-mod_second (number x) (number y + number z) m
         ∙ ap (λ n. n % m) (mul-add (number x) (number y) (number z)) ∙ sym (add-mod-mod (number x * number y) (number x * number z) m)
         ∙ sym (mod-add-mod (number x * number y) m (number x * number z % m))
         ∙ ap₂ (λ a b. (a + b) % m) (sym (M.times_is x y)) (sym (M.times_is x z)) ∙ sym (M.plus_is (o.times x y) (o.times x z)));

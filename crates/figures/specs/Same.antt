@@ -1,16 +1,20 @@
 -- A figure is told by its number: the bound beside it has one proof at most. Assumes nothing.
-use Rattle.std.specs.Prelude.{◌≡◌, ◌^◌, ◌<◌}
+use Rattle.std.specs.Prelude.{◌≡◌, ℕ, ◌<◌}
+use mathlib.Core.Path.{PathP}
 use mathlib.Core.HLevel.{is_prop→PathP}
 use Rattle.std.proofs.Math.Bridge.{le_prop}
 use Rattle.figures.specs.declared.kinds.Word.{Word}
 use Rattle.figures.specs.declared.kinds.Residue.{Residue}
 use Rattle.figures.specs.declared.kinds.Scenarios.{Scenarios}
 
+same_bound : {m a b : ℕ} (e : a ≡ b) (p : a < m) (q : b < m) → PathP (λ k. e k < m) p q
+same_bound {m} e p q = is_prop→PathP (λ k. e k < m) (λ k. le_prop) p q
+
 pub same_word : (x y : Word) → x.number ≡ y.number → x ≡ y
-same_word x y e = λ j. record { number = e j; fits = is_prop→PathP (λ k. e k < 2 ^ 64) (λ k. le_prop) x.fits y.fits j }
+same_word x y e = λ j. record { number = e j; fits = same_bound e x.fits y.fits j }
 
 pub same_residue : (x y : Residue) → x.number ≡ y.number → x ≡ y
-same_residue x y e = λ j. record { number = e j; below = is_prop→PathP (λ k. e k < 2147483647) (λ k. le_prop) x.below y.below j }
+same_residue x y e = λ j. record { number = e j; below = same_bound e x.below y.below j }
 
 pub same_scenarios : (x y : Scenarios) → x.bits ≡ y.bits → x ≡ y
-same_scenarios x y e = λ j. record { bits = e j; fits = is_prop→PathP (λ k. e k < 2 ^ 64) (λ k. le_prop) x.fits y.fits j }
+same_scenarios x y e = λ j. record { bits = e j; fits = same_bound e x.fits y.fits j }

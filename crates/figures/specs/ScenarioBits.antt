@@ -1,13 +1,10 @@
 -- Scenarios: 64 bits, one for each scenario. Assumes nothing.
-use Rattle.std.specs.Prelude.{ℕ, ◌-◌, ◌%◌, ◌^◌, ◌<◌, bit_and, bit_xor}
-use Rattle.std.proofs.Common.{mod-lt, lit<}
+use Rattle.std.specs.Prelude.{ℕ, ◌-◌, ◌%◌, ◌^◌, bit_and, bit_xor}
 use Rattle.std.specs.Int.Bits.{and_lt}
 use Rattle.std.proofs.lemmas.Nat.{xor_lt}
 use Rattle.algebra.specs.Ring.{Ops}
+use Rattle.figures.specs.Words.{below}
 use Rattle.figures.specs.declared.kinds.Scenarios.{Scenarios}
-
-pub below : (n : ℕ) → n % 2 ^ 64 < 2 ^ 64
-below n = mod-lt n (lit< tt)
 
 -- The scenarios of a number's 64 low bits.
 abbrev pub scenarios : ℕ → Scenarios

@@ -1,7 +1,6 @@
 //! Residues, the check figures: arithmetic modulo the prime 2^31 - 1.
 ghost use Rattle.figures.specs.Residues.{residue, ops as residue_ops, modulus};
 ghost use Rattle.std.specs.Prelude.{refl};
-ghost use Rattle.figures.specs.Residues;
 ghost use Rattle.figures.specs.Modular.{modular_laws};
 ghost use Rattle.figures.specs.Same.{same_residue};
 ghost use Rattle.std.proofs.Common.{mod-eq_of_lt, rules};
@@ -21,7 +20,7 @@ impl Ring for Residue {
 
     ghost plain = { λ x. x.number };
 
-    ghost laws = { modular_laws modulus (λ x. x.number) Residues.ops (record {
+    ghost laws = { modular_laws modulus (λ x. x.number) residue_ops (record {
       same = same_residue;
       below = λ x. x.below;
       zero_is = refl;

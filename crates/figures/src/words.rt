@@ -1,7 +1,6 @@
 //! Words: sum, negative and product modulo 2^64.
 ghost use Rattle.figures.specs.Words.{word, ops as word_ops};
 ghost use Rattle.std.specs.Prelude.{◌^◌, refl};
-ghost use Rattle.figures.specs.Words;
 ghost use Rattle.figures.specs.Modular.{modular_laws};
 ghost use Rattle.figures.specs.Same.{same_word};
 ghost use Rattle.std.proofs.Common.{mod-eq_of_lt, rules};
@@ -18,7 +17,7 @@ impl Ring for Word {
 
     ghost plain = { λ x. x.number };
 
-    ghost laws = { modular_laws (2 ^ 64) (λ x. x.number) Words.ops (record {
+    ghost laws = { modular_laws (2 ^ 64) (λ x. x.number) word_ops (record {
       same = same_word;
       below = λ x. x.fits;
       zero_is = refl;

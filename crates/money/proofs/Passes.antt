@@ -5,13 +5,13 @@ use Rattle.std.proofs.lemmas.Nat.{mul-le}
 use Rattle.std.proofs.lemmas.List.{append_assoc, drop_more, drop-set-lt, get_or-drop, take_more_set}
 use Rattle.money.specs.Money.{pass, whole}
 
--- the two products fit, where the factors are a life and what it lacks of D
+-- The two products fit, where the factors are a life and what it lacks of D.
 pub products_fit : (p b x : ℕ) → p ≤ whole → b ≤ whole → x ≤ whole → p * b + (whole - p) * x ≤ 1000000000000000000
 products_fit p b x h hb hx =
     omega (arith, mul-le p b p whole (omega arith) hb, mul-le (whole - p) x (whole - p) whole (omega arith) hx)
 
 module _ (p : ℕ) (row entry : List ℕ) (i b c : ℕ) (l : i < length row) (same : drop i row ≡ drop i entry) where
-  -- what the pass reads is what was there
+  -- What the pass reads is what was there.
   read_same : get_or row i 0 ≡ get_or entry i 0
   read_same = simp (get_or-drop, add-zero) at (ap (λ zs. get_or zs 0 0) same)
 
@@ -33,10 +33,10 @@ module _ (p : ℕ) (row entry : List ℕ) (i b c : ℕ) (l : i < length row) (sa
       ∙ ap (λ zs. take i row ++ pass p b c zs) (sym (drop_more row i 0 l) ∙ same)
       ∙ done
 
--- what a turn reads is at most D, as every old entry is
+-- What a turn reads is at most D, as every old entry is.
 pub read_small : (row entry : List ℕ) (i : ℕ) → i < length row → drop i row ≡ drop i entry
     → ((k : ℕ) → get_or entry k 0 ≤ whole) → get_or row i 0 ≤ whole
 read_small row entry i l same small = omega (arith, read_same 0 row entry i 0 0 l same, small i)
 
--- what a turn of the pass needs
+-- What a turn of the pass needs.
 pub ruleset turns = (products_fit, read_small, rest_more, done_more)

@@ -13,11 +13,10 @@ use Rattle.money.specs.Money.{pass, whole, with_life, money_row, factor_of, exac
 abbrev pub sum : List ℕ → ℕ
 sum xs = total naturals xs
 
-module _ (p q : ℕ) (whole_is : q + p ≡ whole) where
-  both : (x : ℕ) → q * x + p * x ≡ whole * x
-  both x = sym (add-mul q p x) ∙ ap (λ z. z * x) whole_is
+both : (d p q x : ℕ) → q + p ≡ d → q * x + p * x ≡ d * x
+both d p q x e = sym (add-mul q p x) ∙ ap (λ z. z * x) e
 
--- the remainder that is left after a pass
+-- The remainder that is left after a pass.
 abbrev last : ℕ → ℕ → ℕ → List ℕ → ℕ
 last p b c [] = c
 last p b c (x ∷ xs) = last p x ((p * b + (whole - p) * x + c) % whole) xs
@@ -27,14 +26,14 @@ last_below p b c [] h = h
 last_below p b c (x ∷ xs) h = last_below p x ((p * b + (whole - p) * x + c) % whole) xs (omega arith)
 
 module _ (p : ℕ) (le : p ≤ whole) where
-  -- the carries telescope
+  -- The carries telescope.
   tally : (b c : ℕ) (xs : List ℕ) → whole * sum (pass p b c (xs ++ 0 ∷ [])) + last p b c (xs ++ 0 ∷ []) ≡ p * b + c + whole * sum xs
   tally b c [] = omega arith
   tally b c (x ∷ xs) =
       let t : ℕ = p * b + (whole - p) * x + c in
-      omega (arith, tally x (t % whole) xs, both p (whole - p) (omega arith) x)
+      omega (arith, tally x (t % whole) xs, both whole p (whole - p) x (omega arith))
 
-  -- and so they do from each place on
+  -- And so they do from each place on.
   tail : (k b c : ℕ) (xs : List ℕ)
       → (r : ℕ) × (c < whole → r < whole)
       × (whole * sum (drop (suc k) (pass p b c (xs ++ 0 ∷ []))) + last p b c (xs ++ 0 ∷ [])
@@ -42,43 +41,44 @@ module _ (p : ℕ) (le : p ≤ whole) where
   tail zero b c [] = (last p b c (0 ∷ []), (λ h. last_below p b c (0 ∷ []) h), omega arith)
   tail zero b c (x ∷ xs) =
       let t : ℕ = p * b + (whole - p) * x + c in
-      (t % whole, (λ h. omega arith), omega (arith, tally x (t % whole) xs, both p (whole - p) (omega arith) (sum xs)))
+      (t % whole, (λ h. omega arith), omega (arith, tally x (t % whole) xs, both whole p (whole - p) (sum xs) (omega arith)))
   tail (suc k) b c [] = (last p b c (0 ∷ []), (λ h. last_below p b c (0 ∷ []) h), omega arith)
   tail (suc k) b c (x ∷ xs) =
       let t : ℕ = p * b + (whole - p) * x + c in
       let r = tail k x (t % whole) xs in
       (r.0, (λ h. r.1 (omega arith)), r.2)
 
-  pub with_sum : (row : List ℕ) → sum row ≡ whole → (sum (with_life row p) ≡ whole) × (last p 0 0 (row ++ 0 ∷ []) ≡ 0)
+  with_sum : (row : List ℕ) → sum row ≡ whole → (sum (with_life row p) ≡ whole) × (last p 0 0 (row ++ 0 ∷ []) ≡ 0)
   with_sum row e = omega (arith, tally 0 0 row, last_below p 0 0 (row ++ 0 ∷ []) (omega arith))
 
-  pub with_tail : (row : List ℕ) → sum row ≡ whole → (k : ℕ)
+  with_tail : (row : List ℕ) → sum row ≡ whole → (k : ℕ)
       → (r : ℕ) × (r < whole)
       × (whole * sum (drop (suc k) (with_life row p)) ≡ p * sum (drop k row) + (whole - p) * sum (drop (suc k) row) + r)
   with_tail row e k = let r = tail k 0 0 row in (r.0, r.1 (omega arith), omega (arith, r.2, (with_sum row e).1))
 
--- ---- one life more keeps the bounds
+-- One life more keeps the bounds.
 module _ (d p q x y a b c w f : ℕ) where
-  -- a and b are the old sums times w, f the new one
+  scaled : (p * x + q * y) * d ≡ p * (x * d) + q * (y * d)
+  scaled = semiring naturals_laws (p ∷ q ∷ x ∷ y ∷ d ∷ []) (search made depth 40 fits 100000) tt
+
+  raised : f * (d * w) ≡ d * f * w
+  raised = semiring naturals_laws (f ∷ d ∷ w ∷ []) (search made depth 40 fits 100000) tt
+
+  spread : (p * a + q * b + c) * w ≡ p * (a * w) + q * (b * w) + c * w
+  spread = semiring naturals_laws (p ∷ q ∷ a ∷ b ∷ c ∷ w ∷ []) (search made depth 40 fits 100000) tt
+
+  -- Here a and b are the old sums times w, and f is the new one.
   near_low : d * f ≡ p * a + q * b + c → x * d ≤ a * w → y * d ≤ b * w → (p * x + q * y) * d ≤ f * (d * w)
-  near_low t lx ly =
-      let s : (p * x + q * y) * d ≡ p * (x * d) + q * (y * d) = semiring naturals_laws (p ∷ q ∷ x ∷ y ∷ d ∷ []) (search made depth 40 fits 100000) tt in
-      let u : f * (d * w) ≡ d * f * w = semiring naturals_laws (f ∷ d ∷ w ∷ []) (search made depth 40 fits 100000) tt in
-      let v : (p * a + q * b + c) * w ≡ p * (a * w) + q * (b * w) + c * w = semiring naturals_laws (p ∷ q ∷ a ∷ b ∷ c ∷ w ∷ []) (search made depth 40 fits 100000) tt in
-      omega (arith, s, u, ap (λ z. z * w) t, v, mul-le-mul_left p lx, mul-le-mul_left q ly)
+  near_low t lx ly = omega (arith, scaled, raised, ap (λ z. z * w) t, spread, mul-le-mul_left p lx, mul-le-mul_left q ly)
 
   near_high : (e : ℕ) → q + p ≡ d → d * f ≡ p * a + q * b + c → c < d → a * w ≤ x * d + e * w → b * w ≤ y * d + e * w
       → f * (d * w) ≤ (p * x + q * y) * d + suc e * (d * w)
   near_high e whole_is t lc hx hy =
-      let s : (p * x + q * y) * d ≡ p * (x * d) + q * (y * d) = semiring naturals_laws (p ∷ q ∷ x ∷ y ∷ d ∷ []) (search made depth 40 fits 100000) tt in
-      let u : f * (d * w) ≡ d * f * w = semiring naturals_laws (f ∷ d ∷ w ∷ []) (search made depth 40 fits 100000) tt in
-      let v : (p * a + q * b + c) * w ≡ p * (a * w) + q * (b * w) + c * w = semiring naturals_laws (p ∷ q ∷ a ∷ b ∷ c ∷ w ∷ []) (search made depth 40 fits 100000) tt in
       let g : p * (x * d + e * w) ≡ p * (x * d) + p * (e * w) = mul-add p (x * d) (e * w) in
       let h : q * (y * d + e * w) ≡ q * (y * d) + q * (e * w) = mul-add q (y * d) (e * w) in
-      let k : q * (e * w) + p * (e * w) ≡ d * (e * w) = sym (add-mul q p (e * w)) ∙ ap (λ z. z * (e * w)) whole_is in
       let m : suc e * (d * w) ≡ d * (e * w) + d * w = suc_times e d w in
       let lt : c * w ≤ d * w = mul-le-mul_right w (let le : c ≤ d = omega arith in le) in
-      omega (arith, s, u, ap (λ z. z * w) t, v, g, h, k, m, lt, mul-le-mul_left p hx, mul-le-mul_left q hy)
+      omega (arith, scaled, raised, ap (λ z. z * w) t, spread, g, h, both d p q (e * w) whole_is, m, lt, mul-le-mul_left p hx, mul-le-mul_left q hy)
     where
       suc_times : (e d w : ℕ) → suc e * (d * w) ≡ d * (e * w) + d * w
       suc_times e d w =
@@ -98,7 +98,7 @@ near_all_patterns : (n x f : ℕ) → x ≡ whole ^ n → f ≡ whole → Near n
 near_all_patterns n x f ex ef =
     rw (ex, ef) (omega (arith, mul_comm (whole ^ n) whole), omega (arith, mul_comm (whole ^ n) whole))
 
--- ---- the exact sums, as lives are added at the end
+-- The exact sums, as lives are added at the end.
 abbrev life : ℕ → Life ℕ
 life p = record { alive = p; dead = whole - p }
 
@@ -115,7 +115,7 @@ exact_zero (p ∷ ls) h =
     at_least_zero_cons naturals_laws (life p) (map life ls)
     ∙ ap₂ ◌*◌ e (exact_zero ls h.1) ∙ sym (pow-succ' whole (length ls))
 
--- ---- rows
+-- How long rows are, and that they add up to D.
 length_pass : (p b c : ℕ) (xs : List ℕ) → length (pass p b c xs) ≡ length xs
 length_pass p b c [] = refl
 length_pass p b c (x ∷ xs) = ap suc (length_pass p x ((p * b + (whole - p) * x + c) % whole) xs)
@@ -141,7 +141,7 @@ row_sum lives h = (rows_kept lives (whole ∷ []) h refl).0
 pub row_long : (lives : List ℕ) → AllByRecursion (λ p. p ≤ whole) lives → length (money_row lives) ≡ length lives + 1
 row_long lives h = omega (arith, (rows_kept lives (whole ∷ []) h refl).1)
 
--- ---- all the bounds of a row
+-- All the bounds of a row.
 abbrev Good : List ℕ → List ℕ → Type 0
 Good ls row = (sum row ≡ whole) × ((k : ℕ) → Near (length ls) (exact ls k) (sum (drop k row)))
 
@@ -172,13 +172,12 @@ good_all (p ∷ rest) ls row h all some g =
     (good_all rest (ls ++ p ∷ []) (with_life row p) h.1 (All-append (λ x. x ≤ whole) ls (p ∷ []) all (h.0, tt))
     (omega (arith, length-append ls (p ∷ []))) (good_more ls row p h.0 all some g))
 
--- the first life loses nothing
+-- The first life loses nothing.
 near_same : (x f : ℕ) → f ≡ x → Near 1 x f
 near_same x f e = omega arith
 
 drop_nil : (k : ℕ) → sum (drop k []) ≡ 0
-drop_nil zero = refl
-drop_nil (suc k) = refl
+drop_nil k = ap sum (drop_all k [] (omega arith))
 
 good_first : (p : ℕ) → p ≤ whole → Good (p ∷ []) (with_life (whole ∷ []) p)
 good_first p le = ((with_sum p le (whole ∷ []) refl).0, near)

@@ -1,5 +1,5 @@
 -- What the calls of `money_row` and `factor` give, put together. Assumes nothing.
-use Rattle.std.proofs.Common.{◌≡◌, ℕ, ◌+◌, ◌<◌, ◌≤◌, List, [], ◌∷◌, ◌++◌, length, get_or, take, drop, set, sym, refl, ap, ◌∙◌, ap₂, arith, length-append}
+use Rattle.std.proofs.Common.{◌≡◌, ℕ, ◌+◌, ◌<◌, ◌≤◌, List, [], ◌∷◌, ◌++◌, length, get_or, take, drop, set, sym, ap, ◌∙◌, ap₂, arith, length-append}
 use Rattle.std.specs.List.{AllByRecursion, sum as std_sum}
 use Rattle.std.proofs.ByRecursion.{All-from_get_or, All-take}
 use Rattle.std.proofs.lemmas.List.{append_assoc, drop_at, drop_more, drop-set-lt, length-take-le, set_at, take_all, take_at}
@@ -13,11 +13,7 @@ use Rattle.money.proofs.Rounding.{sum, get_or_le_sum, row_long, row_sum, near_al
 all_within : (lives : List ℕ) → Admitted lives → AllByRecursion (λ p. p ≤ whole) lives
 all_within lives a = All-from_get_or (λ p. p ≤ whole) lives 0 a.1
 
-pub starts : (xs : List ℕ) (v : ℕ) → 0 < length xs → set xs 0 v ≡ v ∷ drop 1 (set xs 0 v)
-starts [] v h = absurd (omega arith)
-starts (x ∷ xs) v h = refl
-
--- one turn of the loop over the lives
+-- One turn of the loop over the lives.
 module _ (lives entry row : List ℕ) (i : ℕ) (a : Admitted lives) (l : i < length lives) (room : length lives < length entry)
     (so_far : row ≡ money_row (take i lives) ++ drop (i + 1) entry) where
   within : AllByRecursion (λ p. p ≤ whole) (take i lives)

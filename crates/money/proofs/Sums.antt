@@ -7,6 +7,6 @@ use Rattle.algebra.specs.Patterns.{naturals, total}
 pub total_is_sum : (xs : List ℕ) → total naturals xs ≡ sum xs
 total_is_sum = is_sum_by (total naturals) (λ x. x) refl (λ _ _. refl)
 
--- the entries from k on add up to no more than all of them
+-- The entries from k on add up to no more than all of them.
 pub sum_drop_le : (k : ℕ) (xs : List ℕ) → sum (drop k xs) ≤ sum xs
 sum_drop_le k xs = omega (arith, sum_by-take-drop (λ (x : ℕ). x) xs k)

@@ -1,22 +1,18 @@
 -- Numbers written in bytes, the first the most significant. Assumes nothing.
-use Rattle.std.proofs.Common.{◌≡◌, ℕ, zero, suc, ◌+◌, ◌*◌, ◌/◌, ◌%◌, ◌^◌, ◌<◌, List, [], ◌∷◌, length, get_or, sym, refl, ap, ◌∙◌, ap₂, add-zero, add_assoc, mod-lt, mod-eq_of_lt, mul_assoc, add-mul, zero-add, mul-one, arith, lit<, w8, Fits}
+use Rattle.std.proofs.Common.{◌≡◌, ℕ, zero, suc, ◌+◌, ◌*◌, ◌/◌, ◌%◌, ◌^◌, ◌<◌, List, [], ◌∷◌, length, get_or, sym, refl, ap, ◌∙◌, ap₂, add-zero, add_assoc, mod-eq_of_lt, mul_assoc, add-mul, zero-add, mul-one, arith, lit<, w8, Fits}
 use native.Mathlib.Nat.{pow-succ', mod-one, one-le-pow}
 use lib.Arith.{mod-mul}
 use Rattle.std.specs.Int.Digits.{number_from_digits, number_from_digits_after, AllBelowBase}
 use Rattle.std.proofs.ByRecursion.{All-from_get_or}
 
--- what is read from a slice of bytes fits them
+-- What is read from a slice of bytes fits them.
 pub octets : (bytes : List ℕ) → ((i : ℕ) → Fits w8 (get_or bytes i 0)) → AllBelowBase 256 bytes
 octets bytes small = All-from_get_or (λ d. d < 256) bytes 0 (λ i _. omega (arith, small i))
 
--- the k lowest bytes of a number
+-- The k lowest bytes of a number.
 abbrev pub bytes_of : ℕ → ℕ → List ℕ
 bytes_of zero n = []
 bytes_of (suc k) n = n / 256 ^ k % 256 ∷ bytes_of k n
-
-pub bytes_under : (k n : ℕ) → AllBelowBase 256 (bytes_of k n)
-bytes_under zero n = tt
-bytes_under (suc k) n = (mod-lt (n / 256 ^ k) (lit< tt), bytes_under k n)
 
 number_after : (k a n : ℕ) → number_from_digits_after 256 a (bytes_of k n) ≡ a * 256 ^ k + n % 256 ^ k
 number_after zero a n = sym (ap₂ ◌+◌ (mul-one a) (mod-one n) ∙ add-zero a)
@@ -27,11 +23,11 @@ number_after (suc k) a n =
     ∙ ap₂ ◌+◌ (mul_assoc a 256 (256 ^ k) ∙ ap (λ x. a * x) (sym (pow-succ' 256 k)))
     (sym (ap (λ x. n % x) (pow-succ' 256 k) ∙ mod-mul n (lit< tt) (one-le-pow k 256 (lit< tt))))
 
--- 16 bytes write every number of 128 bits
+-- 16 bytes write every number of 128 bits.
 pub number_bytes : (n : ℕ) → n < 2 ^ 128 → number_from_digits 256 (bytes_of 16 n) ≡ n
 number_bytes n h = number_after 16 0 n ∙ zero-add (n % 256 ^ 16) ∙ mod-eq_of_lt h
 
--- bytes are told by their number and their count
+-- Bytes are told by their number and their count.
 same_after : (a b : ℕ) (xs ys : List ℕ) → length xs ≡ length ys → AllBelowBase 256 xs → AllBelowBase 256 ys
     → number_from_digits_after 256 a xs ≡ number_from_digits_after 256 b ys → (a ≡ b) × (xs ≡ ys)
 same_after a b [] [] long us vs e = (e, refl)

@@ -1,8 +1,8 @@
 -- A record's fields are narrow enough for their places, and acceptable. Assumes nothing.
-use Rattle.std.proofs.Common.{◌≡◌, ℕ, ◌^◌, ◌<◌, ◌≤◌, Bool, true, false, cond, ◌&&◌, eqb, leb, List, length, Ok, Err, sym, refl, ap, ◌∙◌, subst, lt_of_lt_of_le, arith, lit<, pow_mono, eq-eqb, eqb-true, le-leb}
-use borrow.Author.Tests.{clash}
+use Rattle.std.proofs.Common.{◌≡◌, ℕ, ◌^◌, ◌<◌, ◌≤◌, Bool, true, false, cond, ◌&&◌, ◌||◌, eqb, List, length, Ok, Err, Result, sym, refl, ap, ◌∙◌, subst, lt_of_lt_of_le, arith, lit<, pow_mono, eq-eqb, eqb-true, le-leb}
 use Rattle.std.specs.Int.Digits.{number_from_digits, AllBelowBase}
 use Rattle.std.proofs.lemmas.Int.Digits.{number_lt}
+use Rattle.std.proofs.lemmas.Bool.{and_parts}
 use Rattle.std.proofs.lemmas.Bool.Decides.{nat_tests}
 use Rattle.figures.specs.Packs.{Admitted}
 use Rattle.reply.specs.Layout.{part, fields_in, spare_in, Holds}
@@ -15,7 +15,7 @@ use Rattle.reply.specs.declared.Refusal.TheVariants.{WrongSize, Unacceptable}
 use Rattle.reply.specs.declared.Reply.{Reply}
 use Rattle.reply.specs.declared.Reply.TheVariants.{Answered, Refused, Lives}
 use Rattle.reply.proofs.Bytes.{same_bytes}
-use Rattle.reply.proofs.Places.{placed, parts_placed, kind_part, question_part, refusal_part, k_part, lives_part, spare_part, figure_part}
+use Rattle.reply.proofs.Places.{placed, fields_at, parts_placed, fields_found, spare_found}
 
 pub record Narrow (f : Fields) : Type 0 where
   pub kind : f.kind < 4
@@ -28,6 +28,10 @@ pub record Narrow (f : Fields) : Type 0 where
 question_narrow : (q : Question) → question_number q < 8
 question_narrow Exactly = lit< tt
 question_narrow AtLeast = lit< tt
+
+question_counts : (q : Question) → (eqb (question_number q) 1 || eqb (question_number q) 2) ≡ true
+question_counts Exactly = refl
+question_counts AtLeast = refl
 
 kind_true : (f : Fields) → 1 ≤ f.kind → f.kind ≤ 3 → (f.kind ≡ 2 → f.figure < 2147483647) → kindly f ≡ true
 kind_true f low high residue = grind (arith, nat_tests)
@@ -45,54 +49,32 @@ module _ {F : Type 0} (kind width : ℕ) (bits : F → ℕ) (some : F) (admitted
   kind_ok f x e = kind_true f (omega (arith, (admitted x).least)) (omega (arith, (admitted x).greatest))
 
   pub replied_acceptable : (n : ℕ) → n ≤ 64 → (a : Reply F) → acceptable (replied kind bits n a) ≡ true
-  replied_acceptable n h (Answered Exactly k x) =
-      let few : leb n 64 ≡ true = le-leb n 64 h in
-      let low : leb k.number 64 ≡ true = le-leb k.number 64 k.bound in
-      rw (kind_ok (replied kind bits n (Answered Exactly k x)) x refl (admitted x).residue, few, low) refl
-  replied_acceptable n h (Answered AtLeast k x) =
-      let few : leb n 64 ≡ true = le-leb n 64 h in
-      let low : leb k.number 64 ≡ true = le-leb k.number 64 k.bound in
-      rw (kind_ok (replied kind bits n (Answered AtLeast k x)) x refl (admitted x).residue, few, low) refl
-  replied_acceptable n h (Refused Exactly) =
-      let few : leb n 64 ≡ true = le-leb n 64 h in
-      rw (kind_ok (replied kind bits n (Refused Exactly)) some refl (λ _. lit< tt), few) refl
-  replied_acceptable n h (Refused AtLeast) =
-      let few : leb n 64 ≡ true = le-leb n 64 h in
-      rw (kind_ok (replied kind bits n (Refused AtLeast)) some refl (λ _. lit< tt), few) refl
-  replied_acceptable n h Lives =
-      let few : leb n 64 ≡ true = le-leb n 64 h in
-      rw (kind_ok (replied kind bits n Lives) some refl (λ _. lit< tt), few) refl
+  replied_acceptable n h (Answered q k x) =
+      rw (kind_ok (replied kind bits n (Answered q k x)) x refl (admitted x).residue, le-leb n 64 h, le-leb k.number 64 k.bound, question_counts q) refl
+  replied_acceptable n h (Refused q) =
+      rw (kind_ok (replied kind bits n (Refused q)) some refl (λ _. lit< tt), le-leb n 64 h, question_counts q) refl
+  replied_acceptable n h Lives = rw (kind_ok (replied kind bits n Lives) some refl (λ _. lit< tt), le-leb n 64 h) refl
 
-abbrev pub whole : Fields → ℕ
-whole f = placed f.kind f.question f.refusal f.k f.lives f.figure
-
--- bytes that write the fields at their places hold them
-pub holds_placed : (bytes : List ℕ) (f : Fields) → Narrow f → length bytes ≡ 16 → number_from_digits 256 bytes ≡ whole f → Holds bytes f
+-- Bytes that write the fields at their places hold them.
+pub holds_placed : (bytes : List ℕ) (f : Fields) → Narrow f → length bytes ≡ 16 → number_from_digits 256 bytes ≡ placed f → Holds bytes f
 holds_placed bytes f w long e = record {
   size = long;
-  fields = λ i. record {
-    kind = (ap (λ n. part n 0 2) e ∙ kind_part _ _ _ _ _ _ w.kind w.question w.refusal w.k w.lives w.figure) i;
-    question = (ap (λ n. part n 2 3) e ∙ question_part f.kind _ _ _ _ _ w.kind w.question w.refusal w.k w.lives w.figure) i;
-    refusal = (ap (λ n. part n 5 6) e ∙ refusal_part f.kind f.question _ _ _ _ w.kind w.question w.refusal w.k w.lives w.figure) i;
-    k = (ap (λ n. part n 11 7) e ∙ k_part f.kind f.question f.refusal _ _ _ w.kind w.question w.refusal w.k w.lives w.figure) i;
-    lives = (ap (λ n. part n 18 7) e ∙ lives_part f.kind f.question f.refusal f.k _ _ w.kind w.question w.refusal w.k w.lives w.figure) i;
-    figure = (ap (λ n. part n 64 64) e ∙ figure_part f.kind f.question f.refusal f.k f.lives _ w.kind w.question w.refusal w.k w.lives w.figure) i;
-  };
-  spare = ap (λ n. part n 25 39) e ∙ spare_part _ _ _ _ _ _ w.kind w.question w.refusal w.k w.lives w.figure;
+  fields = ap fields_at e ∙ fields_found f.kind f.question f.refusal f.k f.lives f.figure w.kind w.question w.refusal w.k w.lives w.figure;
+  spare = ap (λ n. part n 25 39) e ∙ spare_found f.kind f.question f.refusal f.k f.lives f.figure w.kind w.question w.refusal w.k w.lives w.figure;
 }
 
--- and 16 bytes that hold fields write them at their places
-pub placed_holds : (bytes : List ℕ) (f : Fields) → AllBelowBase 256 bytes → Holds bytes f → number_from_digits 256 bytes ≡ whole f
+-- And 16 bytes that hold fields write them at their places.
+placed_holds : (bytes : List ℕ) (f : Fields) → AllBelowBase 256 bytes → Holds bytes f → number_from_digits 256 bytes ≡ placed f
 placed_holds bytes f under h =
     let small : number_from_digits 256 bytes < 2 ^ 128 = subst (λ n. number_from_digits 256 bytes < 256 ^ n) h.size (number_lt 256 bytes under) in
-    sym (parts_placed (number_from_digits 256 bytes) small h.spare) ∙ ap whole h.fields
+    sym (parts_placed (number_from_digits 256 bytes) small h.spare) ∙ ap placed h.fields
 
--- so the fields tell the bytes
+-- So the fields tell the bytes.
 pub same_holds : (xs ys : List ℕ) (f : Fields) → AllBelowBase 256 xs → AllBelowBase 256 ys → Holds xs f → Holds ys f → xs ≡ ys
 same_holds xs ys f us vs h k =
     same_bytes xs ys (h.size ∙ sym k.size) us vs (placed_holds xs f us h ∙ sym (placed_holds ys f vs k))
 
--- a record that holds acceptable fields is read as them
+-- A record that holds acceptable fields is read as them.
 pub holds_unpacked : (bytes : List ℕ) (f : Fields) → Holds bytes f → acceptable f ≡ true → unpacked bytes ≡ Ok f
 holds_unpacked bytes f h ok =
     let long : eqb (length bytes) 16 ≡ true = eq-eqb _ _ h.size in
@@ -100,18 +82,10 @@ holds_unpacked bytes f h ok =
     let fine : acceptable (fields_in bytes) ≡ true = ap acceptable h.fields ∙ ok in
     rw (long, spare, fine) (ap Ok h.fields)
 
-and_first : (a b : Bool) → (a && b) ≡ true → a ≡ true
-and_first true b e = refl
-and_first false b e = e
+pub ok_err : {T E : Type 0} {x : T} {e : E} → ◌≡◌ {A = Result T E} (Ok x) (Err e) → ⊥
+ok_err h = let z : ◌≡◌ {A = ℕ} 0 1 = cc in absurd (omega arith)
 
-and_second : (a b : Bool) → (a && b) ≡ true → b ≡ true
-and_second true b e = e
-and_second false b e = absurd (clash e)
-
-pub held_at : (bytes : List ℕ) {f f' : Fields} → f ≡ f' → Holds bytes f → Holds bytes f'
-held_at bytes e h = subst (λ f. Holds bytes f) e h
-
--- what an accepted record says of its bytes
+-- What an accepted record says of its bytes.
 pub accepted : {A : Type 0} (bytes : List ℕ) (f : Fields) (a : A) → unpacked bytes ≡ Ok f
     → Holds bytes f × (acceptable f ≡ true) × (checked bytes a ≡ Ok a)
 accepted bytes f a e = by_size (eqb (length bytes) 16) refl e
@@ -120,20 +94,20 @@ accepted bytes f a e = by_size (eqb (length bytes) 16) refl e
         → Holds bytes f × (acceptable f ≡ true) × (cond b (Ok a) (Err Unacceptable) ≡ Ok a)
     by_rules long true t e =
         let same : fields_in bytes ≡ f = cc in
-        (record { size = long; fields = same; spare = eqb-true _ _ (and_first _ _ t) }, ap acceptable (sym same) ∙ and_second _ _ t, refl)
-    by_rules long false t e = let z : ◌≡◌ {A = ℕ} 0 1 = cc in absurd (omega arith)
+        (record { size = long; fields = same; spare = eqb-true _ _ (and_parts _ _ t).0 }, ap acceptable (sym same) ∙ (and_parts _ _ t).1, refl)
+    by_rules long false t e = absurd (ok_err (sym e))
 
     by_size : (b : Bool) → eqb (length bytes) 16 ≡ b → cond b (cond (eqb (spare_in bytes) 0 && acceptable (fields_in bytes)) (Ok (fields_in bytes)) (Err Unacceptable)) (Err WrongSize) ≡ Ok f
         → Holds bytes f × (acceptable f ≡ true) × (cond b (cond (eqb (spare_in bytes) 0 && acceptable (fields_in bytes)) (Ok a) (Err Unacceptable)) (Err WrongSize) ≡ Ok a)
     by_size true t e = by_rules (eqb-true _ _ t) (eqb (spare_in bytes) 0 && acceptable (fields_in bytes)) refl e
-    by_size false t e = let z : ◌≡◌ {A = ℕ} 0 1 = cc in absurd (omega arith)
+    by_size false t e = absurd (ok_err (sym e))
 
--- and a refused one is refused whatever it would have given
+-- And a refused one is refused whatever it would have given.
 pub refused_alike : {A : Type 0} (bytes : List ℕ) (e : Refusal) (a : A) → unpacked bytes ≡ Err e → checked bytes a ≡ Err e
 refused_alike bytes e a h = by_size (eqb (length bytes) 16) h
   where
     by_rules : (b : Bool) → cond b (Ok (fields_in bytes)) (Err Unacceptable) ≡ Err e → cond b (Ok a) (Err Unacceptable) ≡ Err e
-    by_rules true h = let z : ◌≡◌ {A = ℕ} 0 1 = cc in absurd (omega arith)
+    by_rules true h = absurd (ok_err h)
     by_rules false h = let same : Unacceptable ≡ e = cc in ap Err same
 
     by_size : (b : Bool) → cond b (cond (eqb (spare_in bytes) 0 && acceptable (fields_in bytes)) (Ok (fields_in bytes)) (Err Unacceptable)) (Err WrongSize) ≡ Err e

@@ -1,11 +1,10 @@
 -- The calls' links, from what was found and what was done. Assumes nothing.
-use Rattle.std.proofs.Common.{◌≡◌, ℕ, ◌-◌, ◌<◌, true, false, cond, eqb, ◌≢◌, List, ◌++◌, length, take, drop, replicate, Some, None, Option, sym, refl, ap, ◌∙◌, subst, ap₂, append-nil, arith, length-drop}
+use Rattle.std.proofs.Common.{◌≡◌, ℕ, ◌-◌, ◌<◌, true, false, cond, eqb, ◌≢◌, List, ◌++◌, length, take, replicate, Some, None, Option, sym, refl, ap, ◌∙◌, subst, ap₂, arith}
 use borrow.Rule.Slice.PartMut.{put_mid}
-use Rattle.std.proofs.lemmas.List.{drop_all}
 use Rattle.std.proofs.lemmas.Bool.{eq-eqb, ne_eqb, cond-true, cond-false}
 use Rattle.std.proofs.Math.Logic.{∥∥₁_map}
 use Rattle.algebra.specs.Ring.{Ops, Laws}
-use Rattle.roster.specs.Ledger.{Ledger, capacity_of, Call, Join, Leave, Clear, Done, Refused, present, place_of, answer, granted, is_refused}
+use Rattle.roster.specs.Ledger.{Ledger, capacity_of, Call, Answer, Join, Leave, Clear, Done, Refused, present, place_of, answer, granted, is_refused}
 use Rattle.roster.specs.Cells.{Holds, OfLedger, HoldSome, Met, zero_cell}
 use Rattle.roster.specs.Passes.{joined}
 use Rattle.roster.specs.Refusals.{done_or}
@@ -16,21 +15,20 @@ use Rattle.roster.specs.declared.cells.Cell.{Cell}
 use Rattle.roster.proofs.Laying.{length_held}
 use Rattle.roster.proofs.Places.{present_is}
 use Rattle.roster.proofs.Holding.{cleared_laid}
+use Rattle.roster.proofs.RowsTable.{written_from}
 
 module _ {F P : Type 0} (o : Ops F) (plain : F → P) where
-  pub refused_met : (call : Call F P) (cells : List (Cell P)) (n : ℕ) → ((size : ℕ) (l : Ledger F) → Holds o plain size l cells → Refused n ≡ answer o plain l call) → Met o plain call cells (Refused n) cells
-  refused_met call cells n refused size l held =
-      let e : Refused n ≡ answer o plain l call = refused size l held in
-      let stay : cond (is_refused o plain (answer o plain l call)) l.lives (granted o plain l.lives call) ≡ l.lives = cond-true (is_refused o plain (answer o plain l call)) l.lives (granted o plain l.lives call) (ap (is_refused o plain) (sym e)) in
-      (e, subst (λ lives. Holds o plain size (record { whole = l.whole; capacity = l.capacity; lives = lives }) cells) (sym stay) held)
+  -- A call is met where the answer is the ledger's and the cells hold what that answer lets the call do.
+  pub answer_met : (call : Call F P) (before : List (Cell P)) (given : Answer F P) (after : List (Cell P))
+      → ((size : ℕ) (l : Ledger F) → Holds o plain size l before
+      → (given ≡ answer o plain l call) × Holds o plain size (record { whole = l.whole; capacity = l.capacity; lives = cond (is_refused o plain given) l.lives (granted o plain l.lives call) }) after)
+      → Met o plain call before given after
+  answer_met call before given after work size l held =
+      let d = work size l held in
+      (d.0, subst (λ a. Holds o plain size (record { whole = l.whole; capacity = l.capacity; lives = cond (is_refused o plain a) l.lives (granted o plain l.lives call) }) after) d.0 d.1)
 
-  pub done_met : (call : Call F P) (before after : List (Cell P))
-      → ((size : ℕ) (l : Ledger F) → Holds o plain size l before → (Done ≡ answer o plain l call) × Holds o plain size (record { whole = l.whole; capacity = l.capacity; lives = granted o plain l.lives call }) after)
-      → Met o plain call before Done after
-  done_met call before after done size l held =
-      let d : (Done ≡ answer o plain l call) × Holds o plain size (record { whole = l.whole; capacity = l.capacity; lives = granted o plain l.lives call }) after = done size l held in
-      let go : cond (is_refused o plain (answer o plain l call)) l.lives (granted o plain l.lives call) ≡ granted o plain l.lives call = cond-false (is_refused o plain (answer o plain l call)) l.lives (granted o plain l.lives call) (ap (is_refused o plain) (sym d.0)) in
-      (d.0, subst (λ lives. Holds o plain size (record { whole = l.whole; capacity = l.capacity; lives = lives }) after) (sym go) d.1)
+  refused_met : (call : Call F P) (cells : List (Cell P)) (n : ℕ) → ((size : ℕ) (l : Ledger F) → Holds o plain size l cells → Refused n ≡ answer o plain l call) → Met o plain call cells (Refused n) cells
+  refused_met call cells n refused = answer_met call cells (Refused n) cells (λ size l held. (refused size l held, held))
 
   -- Cells that held a ledger hold what became of it.
   pub still : (became : Ledger F → Ledger F) (before after : List (Cell P)) → ((size : ℕ) (l : Ledger F) → Holds o plain size l before → Holds o plain size (became l) after)
@@ -47,19 +45,23 @@ module _ {F P : Type 0} (o : Ops F) (plain : F → P) where
   located n some cells None found size l held = (leaves n some l None (found size l held), tt)
   located n some cells (Some k) found size l held = (leaves n some l (Some k) (found size l held), sym (found size l held))
 
+  -- What joining with a number that nobody has is answered.
+  abbrev if_room : Ledger F → Answer F P
+  if_room l = cond (eqb (length l.lives) l.capacity) (Refused 4) Done
+
   module _ (n : ℕ) (some : n ≢ 0) (x : F) (p : Option ℕ) (cells : List (Cell P)) (found : OfLedger o plain cells (λ l. p ≡ place_of n l.lives)) where
     -- What joining is answered, after a search for the number.
-    joins : (size : ℕ) (l : Ledger F) → Holds o plain size l cells → answer o plain l (Join n x) ≡ cond (is_some p) (Refused 2) (cond (eqb (length l.lives) l.capacity) (Refused 4) Done)
+    joins : (size : ℕ) (l : Ledger F) → Holds o plain size l cells → answer o plain l (Join n x) ≡ cond (is_some p) (Refused 2) (if_room l)
     joins size l held =
-        cond-false (eqb n 0) (Refused 1) (cond (present n l.lives) (Refused 2) (cond (eqb (length l.lives) l.capacity) (Refused 4) Done)) (ne_eqb n 0 some)
-        ∙ ap (λ b. cond b (Refused 2) (cond (eqb (length l.lives) l.capacity) (Refused 4) Done)) (present_is n l.lives ∙ ap is_some (sym (found size l held)))
+        cond-false (eqb n 0) (Refused 1) (cond (present n l.lives) (Refused 2) (if_room l)) (ne_eqb n 0 some)
+        ∙ ap (λ b. cond b (Refused 2) (if_room l)) (present_is n l.lives ∙ ap is_some (sym (found size l held)))
 
     pub join_present : is_some p ≡ true → Met o plain (Join n x) cells (Refused 2) cells
-    join_present there = refused_met (Join n x) cells 2 (λ size l held. sym (joins size l held ∙ ap (λ b. cond b (Refused 2) (cond (eqb (length l.lives) l.capacity) (Refused 4) Done)) there))
+    join_present there = refused_met (Join n x) cells 2 (λ size l held. sym (joins size l held ∙ ap (λ b. cond b (Refused 2) (if_room l)) there))
 
     module _ (missing : is_some p ≡ false) (count : ℕ) (counted : OfLedger o plain cells (λ l. count ≡ length l.lives)) where
-      absent : (size : ℕ) (l : Ledger F) → Holds o plain size l cells → answer o plain l (Join n x) ≡ cond (eqb (length l.lives) l.capacity) (Refused 4) Done
-      absent size l held = joins size l held ∙ ap (λ b. cond b (Refused 2) (cond (eqb (length l.lives) l.capacity) (Refused 4) Done)) missing
+      absent : (size : ℕ) (l : Ledger F) → Holds o plain size l cells → answer o plain l (Join n x) ≡ if_room l
+      absent size l held = joins size l held ∙ ap (λ b. cond b (Refused 2) (if_room l)) missing
 
       pub join_full : count ≡ capacity_of (length cells) → Met o plain (Join n x) cells (Refused 4) cells
       join_full full = refused_met (Join n x) cells 4 (λ size l held.
@@ -68,16 +70,12 @@ module _ {F P : Type 0} (o : Ops F) (plain : F → P) where
 
       pub join_done : (after : List (Cell P)) → count < capacity_of (length cells)
           → ((size : ℕ) (l : Ledger F) → Holds o plain size l cells → count ≡ length l.lives → count < l.capacity → n ≢ 0 → Holds o plain size (joined l n x) after) → Met o plain (Join n x) cells Done after
-      join_done after within work = done_met (Join n x) cells after (λ size l held.
+      join_done after within work = answer_met (Join n x) cells Done after (λ size l held.
           let c : count ≡ length l.lives = counted size l held in
           let free : count < l.capacity = omega (arith, held.room, length_held held) in (
             sym (absent size l held ∙ cond-false (eqb (length l.lives) l.capacity) (Refused 4) Done (ne_eqb (length l.lives) l.capacity (λ e. omega arith))),
             work size l held c free some,
           ))
-
--- What a write to all but the first cell leaves.
-put_rest : {X : Type 0} (xs ys : List X) → put_mid 1 (length xs - 1) xs ys ≡ take 1 xs ++ ys
-put_rest xs ys = ap (λ zs. take 1 xs ++ (ys ++ zs)) (drop_all (length xs - 1) (drop 1 xs) (omega (arith, length-drop 1 xs))) ∙ ap (λ zs. take 1 xs ++ zs) (append-nil ys)
 
 module _ {F P : Type 0} {o : Ops F} (L : Laws o) (plain : F → P) where
   pub clear_done : (before rest : List (Cell P)) → 0 < length before → rest ≡ replicate (length before - 1) (zero_cell o plain) → Met o plain Clear before Done (put_mid 1 (length before - 1) before rest)
@@ -88,7 +86,7 @@ module _ {F P : Type 0} {o : Ops F} (L : Laws o) (plain : F → P) where
           room = held.room;
           few = omega arith;
           numbered = tt;
-          are = put_rest before rest ∙ ap₂ (λ xs ys. take 1 xs ++ ys) held.are (is ∙ ap (λ i. replicate (i - 1) (zero_cell o plain)) sized)
+          are = written_from before rest 1 ∙ ap₂ (λ xs ys. take 1 xs ++ ys) held.are (is ∙ ap (λ i. replicate (i - 1) (zero_cell o plain)) sized)
               ∙ cleared_laid L plain size l.whole l.lives (omega arith);
         },
       )

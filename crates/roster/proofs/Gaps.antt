@@ -1,7 +1,7 @@
--- Closing the gap that a life leaves, and wiping cells. Assumes nothing.
-use Rattle.std.proofs.Common.{◌≡◌, ℕ, ◌+◌, ◌<◌, ◌≤◌, List, [], ◌∷◌, map, length, get_or, set, replicate, sym, refl, ap, ◌∙◌, subst, ap₂, arith}
-use Rattle.std.specs.List.{range_with_len, FoldsTo}
-use Rattle.std.proofs.lemmas.List.FromFn.{length-map-range_with_len}
+-- Closing the gap that a life leaves. Assumes nothing.
+use Rattle.std.proofs.Common.{◌≡◌, ℕ, ◌+◌, ◌<◌, ◌≤◌, List, map, length, get_or, set, sym, refl, ap, ◌∙◌, ap₂, arith}
+use Rattle.std.specs.List.{range_with_len}
+use Rattle.algebra.proofs.Rows.{length_counting}
 use Rattle.roster.specs.Passes.{cell_of, cells_of, Ends, Closed}
 use Rattle.roster.specs.declared.cells.Cell.{Cell}
 use Rattle.roster.proofs.Laying.{up_to, get_or_up_to_from, pass_up, pass_below, pass_from}
@@ -25,9 +25,9 @@ module _ {P : Type 0} (z : P) (place n : ℕ) (before : List (Cell P)) where
       let f : ℕ → Cell P = cell_of kept sums left in
       let g : ℕ → Cell P = cell_of figures sums numbers in
       let is : cells ≡ map (up_to k f g) (range_with_len 0 size) = inv size figures kept sums numbers left ef en cf cn start in
-      let sized : length cells ≡ size = ap length is ∙ length-map-range_with_len (up_to k f g) 0 size in
-      let cell-is : get_or cells k e ≡ g k = ap (λ xs. get_or xs k e) is ∙ get_or_up_to_from f g size k k e (omega arith) (omega arith) in
-      let above-is : above ≡ g (k + 1) = read ∙ ap (λ xs. get_or xs (k + 1) above) is ∙ get_or_up_to_from f g size k (k + 1) above (omega arith) (omega arith) in
+      let sized : length cells ≡ size = length_counting (up_to k f g) size cells is in
+      let cell-is : get_or cells k e ≡ g k = get_or_up_to_from f g size k cells k e is (omega arith) (omega arith) in
+      let above-is : above ≡ g (k + 1) = read ∙ get_or_up_to_from f g size k cells (k + 1) above is (omega arith) (omega arith) in
       ap₂ (λ xs c. set xs k c) is (same_cell _ (f k) (ap (λ c. c.figure) above-is ∙ sym (cf.after k from)) (ap (λ c. c.sum) cell-is) (ap (λ c. c.number) above-is ∙ sym (cn.after k from)))
       ∙ pass_up f g size k (f k) refl
 
@@ -39,19 +39,9 @@ module _ {P : Type 0} (z : P) (place n : ℕ) (before : List (Cell P)) where
       let f : ℕ → Cell P = cell_of kept sums left in
       let g : ℕ → Cell P = cell_of figures sums numbers in
       let is : cells ≡ map (up_to n f g) (range_with_len 0 size) = inv size figures kept sums numbers left ef en cf cn start ∙ ap (λ i. map (up_to i f g) (range_with_len 0 size)) here in
-      let sized : length cells ≡ size = ap length is ∙ length-map-range_with_len (up_to n f g) 0 size in
-      let last-is : get_or cells n e ≡ g n = ap (λ xs. get_or xs n e) is ∙ get_or_up_to_from f g size n n e (omega arith) (omega arith) in
+      let sized : length cells ≡ size = length_counting (up_to n f g) size cells is in
+      let last-is : get_or cells n e ≡ g n = get_or_up_to_from f g size n cells n e is (omega arith) (omega arith) in
       ap₂ (λ xs c. set xs n c) is (same_cell _ (f n) (rz ∙ sym (ef (n + 1) (omega arith)) ∙ sym (cf.after n from)) (ap (λ c. c.sum) last-is) (sym (en (n + 1) (omega arith)) ∙ sym (cn.after n from)))
       ∙ pass_up f g size n (f n) refl
       ∙ pass_from f g size (n + 1) (λ j h _. same_cell (g j) (f j)
       (ef j (omega arith) ∙ sym (ef (j + 1) (omega arith)) ∙ sym (cf.after j (omega arith))) refl (en j (omega arith) ∙ sym (en (j + 1) (omega arith)) ∙ sym (cn.after j (omega arith))))
-
--- What calls of a closure that gives x each time have filled a list with.
-filled_all : {F X : Type 0} (R : F → X → F → Type 0) (x : X) (f : F) → ((y : X) (f' : F) → R f y f' → (y ≡ x) × (f' ≡ f)) → (ys : List X) (last : F) → FoldsTo R f ys last → ys ≡ replicate (length ys) x
-filled_all R x f gives [] last ran = refl
-filled_all R x f gives (y ∷ ys) last ran =
-    let one : (y ≡ x) × (ran.0 ≡ f) = gives y ran.0 ran.1 in
-    ap₂ ◌∷◌ one.0 (filled_all R x f gives ys last (subst (λ j. FoldsTo R j ys last) one.1 ran.2))
-
-pub filled : {F X : Type 0} (R : F → X → F → Type 0) (x : X) (f : F) → ((y : X) (f' : F) → R f y f' → (y ≡ x) × (f' ≡ f)) → (ys : List X) (n : ℕ) → length ys ≡ n → (last : F) × FoldsTo R f ys last → ys ≡ replicate n x
-filled R x f gives ys n long ran = filled_all R x f gives ys ran.0 ran.1 ∙ ap (λ i. replicate i x) long

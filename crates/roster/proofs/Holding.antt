@@ -1,20 +1,19 @@
 -- What the passes leave where the cells held a ledger. Assumes nothing.
-use Rattle.std.proofs.Common.{◌≡◌, ℕ, zero, suc, ◌+◌, ◌-◌, ◌<◌, ◌≤◌, ◌≢◌, List, [], ◌∷◌, ◌++◌, map, length, get_or, take, drop, set, replicate, Some, sym, refl, ap, ◌∙◌, subst, ap₂, append-nil, zero-add, add-one, arith, length-append}
-use mathlib.Core.List.{map-append}
-use lib.ListN.{length-map}
+use Rattle.std.proofs.Common.{◌≡◌, ℕ, zero, suc, ◌+◌, ◌-◌, ◌<◌, ◌≤◌, ◌≢◌, List, [], ◌∷◌, ◌++◌, map, length, get_or, take, drop, set, replicate, Some, sym, refl, ap, ◌∙◌, subst, ap₂, append-nil, add-one, arith, length-append}
 use Rattle.std.specs.List.{range_with_len, AllByRecursion}
-use Rattle.std.proofs.lemmas.List.FromFn.{length-map-range_with_len, get_or-map-range_with_len}
-use Rattle.std.proofs.ByRecursion.{All-push}
-use Rattle.std.proofs.lemmas.List.{get_or_past, get_or_at, length_push}
+use Rattle.std.proofs.ByRecursion.{All-append, All-push}
+use Rattle.std.proofs.lemmas.List.{get_or_past, get_or_at, get_or_append_left, get_or-append_right, get_or-set_other, set_at, length_push, map-append, length-map}
 use Rattle.algebra.specs.Ring.{Ops, Laws}
 use Rattle.algebra.specs.Sums.{elementary}
-use Rattle.algebra.proofs.Rows.{set_map_counting, map_counting_constant}
-use Rattle.algebra.proofs.Elementary.{elementary_zero, elementary_suc_at, elementary_suc_nil, elementary_beyond}
+use Rattle.algebra.proofs.Rows.{get_or_counting, set_map_counting, map_counting_constant}
+use Rattle.algebra.proofs.Elementary.{elementary_zero, elementary_suc_at, elementary_beyond}
 use Rattle.roster.specs.Ledger.{Member, Ledger, figures, numbers, place_of}
 use Rattle.roster.specs.Cells.{cell_at, laid, Holds, zero_cell}
 use Rattle.roster.specs.Passes.{multiplied, divided, exchanged, cell_of, cells_of, Ends, Closed, joined, left, altered}
 use Rattle.roster.specs.declared.cells.Cell.{Cell}
+use Rattle.roster.proofs.Laying.{length_held}
 use Rattle.roster.proofs.Places.{Around, around}
+use Rattle.roster.proofs.QuestionsRead.{read_figure}
 use Rattle.roster.proofs.Sums.{same_cell, Multiplied, multiplied_front, divided_front, exchanged_front}
 
 -- Lists that differ at one place, or by one element.
@@ -26,32 +25,21 @@ module _ {X : Type 0} (x : X) (e : X) where
   get_or_pushed (y ∷ ys) (suc k) ne = get_or_pushed ys k (λ q. ne (ap suc q))
 
   get_or_below : (xs ys : List X) (k : ℕ) → k < length xs → get_or (xs ++ ys) k e ≡ get_or (xs ++ (x ∷ ys)) k e
-  get_or_below [] ys k h = absurd (omega arith)
-  get_or_below (y ∷ xs) ys zero h = refl
-  get_or_below (y ∷ xs) ys (suc k) h = get_or_below xs ys k (omega arith)
+  get_or_below xs ys k h = get_or_append_left xs ys e k h ∙ sym (get_or_append_left xs (x ∷ ys) e k h)
 
-  get_or_from : (xs ys : List X) (k : ℕ) → length xs ≤ k → get_or (xs ++ ys) k e ≡ get_or (xs ++ (x ∷ ys)) (suc k) e
-  get_or_from [] ys k h = refl
-  get_or_from (y ∷ xs) ys zero h = absurd (omega arith)
-  get_or_from (y ∷ xs) ys (suc k) h = get_or_from xs ys k (omega arith)
+  get_or_from : (xs ys : List X) (k : ℕ) → length xs ≤ k → get_or (xs ++ ys) k e ≡ get_or (xs ++ (x ∷ ys)) (k + 1) e
+  get_or_from xs ys k h =
+      let after : k + 1 - length xs ≡ suc (k - length xs) = omega arith in
+      get_or-append_right xs ys (length xs) k e refl h
+      ∙ sym (get_or-append_right xs (x ∷ ys) (length xs) (k + 1) e refl (omega arith) ∙ ap (λ i. get_or (x ∷ ys) i e) after)
 
-get_or_other : {X : Type 0} (e x y : X) (xs ys : List X) (k : ℕ) → k ≢ length xs → get_or (xs ++ (x ∷ ys)) k e ≡ get_or (xs ++ (y ∷ ys)) k e
-get_or_other e x y [] ys zero ne = absurd (ne refl)
-get_or_other e x y [] ys (suc k) ne = refl
-get_or_other e x y (z ∷ xs) ys zero ne = refl
-get_or_other e x y (z ∷ xs) ys (suc k) ne = get_or_other e x y xs ys k (λ q. ne (ap suc q))
+  get_or_other : (y : X) (xs ys : List X) (k : ℕ) → k ≢ length xs → get_or (xs ++ (x ∷ ys)) k e ≡ get_or (xs ++ (y ∷ ys)) k e
+  get_or_other y xs ys k ne = sym (get_or-set_other (xs ++ (x ∷ ys)) (length xs) k y e ne) ∙ ap (λ zs. get_or zs k e) (set_at xs x ys y (length xs) refl)
 
-all_without : {X : Type 0} (Q : X → Type 0) (bs : List X) (m : X) (cs : List X) → AllByRecursion Q (bs ++ (m ∷ cs)) → AllByRecursion Q (bs ++ cs)
-all_without Q [] m cs ok = ok.1
-all_without Q (b ∷ bs) m cs ok = (ok.0, all_without Q bs m cs ok.1)
-
-all_instead : {X : Type 0} (Q : X → Type 0) (bs : List X) (m m' : X) (cs : List X) → Q m' → AllByRecursion Q (bs ++ (m ∷ cs)) → AllByRecursion Q (bs ++ (m' ∷ cs))
-all_instead Q [] m m' cs q ok = (q, ok.1)
-all_instead Q (b ∷ bs) m m' cs q ok = (ok.0, all_instead Q bs m m' cs q ok.1)
-
-all_at : {X : Type 0} (Q : X → Type 0) (bs : List X) (m : X) (cs : List X) → AllByRecursion Q (bs ++ (m ∷ cs)) → Q m
-all_at Q [] m cs ok = ok.0
-all_at Q (b ∷ bs) m cs ok = all_at Q bs m cs ok.1
+-- What holds of all holds of those before one of them, of itself, and of those after it.
+all_around : {X : Type 0} (Q : X → Type 0) (bs : List X) (m : X) (cs : List X) → AllByRecursion Q (bs ++ (m ∷ cs)) → AllByRecursion Q bs × Q m × AllByRecursion Q cs
+all_around Q [] m cs ok = (tt, ok.0, ok.1)
+all_around Q (b ∷ bs) m cs ok = let rest = all_around Q bs m cs ok.1 in ((ok.0, rest.0), rest.1, rest.2)
 
 -- One field of the lives, after what stands in cell 0.
 module _ {F X : Type 0} (f : Member F → X) (d e : X) where
@@ -77,7 +65,7 @@ module _ {F X : Type 0} (f : Member F → X) (d e : X) where
   field_other : (bs : List (Member F)) (m m' : Member F) (cs : List (Member F)) (place k : ℕ) → place ≡ length bs + 1 → k ≢ place → field_at (bs ++ (m ∷ cs)) k ≡ field_at (bs ++ (m' ∷ cs)) k
   field_other bs m m' cs place k here ne =
       let long : length (d ∷ map f bs) ≡ place = omega (arith, length-map bs f) in
-      field_split bs (m ∷ cs) k ∙ get_or_other e (f m) (f m') (d ∷ map f bs) (map f cs) k (λ q. ne (q ∙ long)) ∙ sym (field_split bs (m' ∷ cs) k)
+      field_split bs (m ∷ cs) k ∙ get_or_other (f m) e (f m') (d ∷ map f bs) (map f cs) k (λ q. ne (q ∙ long)) ∙ sym (field_split bs (m' ∷ cs) k)
 
   field_closed : {Y : Type 0} (q : X → Y) (bs : List (Member F)) (m : Member F) (cs : List (Member F)) (place : ℕ) → place ≡ length bs + 1
       → Closed place (λ k. q (field_at (bs ++ (m ∷ cs)) k)) (λ k. q (field_at (bs ++ cs) k))
@@ -86,7 +74,7 @@ module _ {F X : Type 0} (f : Member F → X) (d e : X) where
       record {
         before = λ k h. ap q (field_split bs cs k ∙ get_or_below (f m) e (d ∷ map f bs) (map f cs) k (omega arith) ∙ sym (field_split bs (m ∷ cs) k));
         after = λ k h. ap q (field_split bs cs k ∙ get_or_from (f m) e (d ∷ map f bs) (map f cs) k (omega arith)
-            ∙ ap (λ i. get_or ((d ∷ map f bs) ++ (f m ∷ map f cs)) i e) (sym (add-one k)) ∙ sym (field_split bs (m ∷ cs) (k + 1)));
+            ∙ sym (field_split bs (m ∷ cs) (k + 1)));
       }
 
 module _ {F : Type 0} {o : Ops F} (L : Laws o) where
@@ -117,10 +105,6 @@ module _ {F P : Type 0} {o : Ops F} (L : Laws o) (plain : F → P) where
   figures_end : (d : F) (lives : List (Member F)) (n : ℕ) → n ≡ length lives → Ends n (plain o.zero) (figure_at d lives)
   figures_end d lives n same k h = ap plain (field_ends (λ m. m.figure) d o.zero lives n same k h)
 
-  -- What is read from such cells.
-  read_cell : (size : ℕ) (f : ℕ → Cell P) (cells : List (Cell P)) (k : ℕ) (e : Cell P) → k < size → cells ≡ map f (range_with_len 0 size) → get_or cells k e ≡ f k
-  read_cell size f cells k e h is = ap (λ xs. get_or xs k e) is ∙ get_or-map-range_with_len f 0 size k k e h (zero-add k)
-
   pub put_in_held : (figure : P → F) → ((x : F) → figure (plain x) ≡ x) → (size : ℕ) (l : Ledger F) (n number : ℕ) (x : F) (before after : List (Cell P)) (e : Cell P) (y : P)
       → Holds o plain size l before → n ≡ length l.lives → n < l.capacity → number ≢ 0
       → after ≡ multiplied o plain figure x (take (n + 2) before) ++ drop (n + 2) before → y ≡ plain x
@@ -143,96 +127,98 @@ module _ {F P : Type 0} {o : Ops F} (L : Laws o) (plain : F → P) where
         are = ap (λ xs. set xs (n + 1) cell) after_is
             ∙ set_map_counting f (cell_at o plain l.whole more) size (n + 1) cell
             (same_cell cell (cell_at o plain l.whole more (n + 1)) (written ∙ ap plain (sym (field_at_lem (λ m. m.figure) l.whole o.zero lives m [] (n + 1) here)))
-            (ap (λ c. c.sum) (read_cell size f after (n + 1) e within after_is)) (sym (field_at_lem (λ m. m.number) 0 0 lives m [] (n + 1) here)))
+            (ap (λ c. c.sum) (get_or_counting f size after after_is (n + 1) e within)) (sym (field_at_lem (λ m. m.number) 0 0 lives m [] (n + 1) here)))
             (λ k h ne. same_cell (f k) (cell_at o plain l.whole more k) (ap plain (field_pushed (λ m. m.figure) l.whole o.zero lives m n k counted ne)) refl (field_pushed (λ m. m.number) 0 0 lives m n k counted ne));
       }
 
-  -- The figure of the life at a place, as it is read back.
-  read_figure : (figure : P → F) → ((x : F) → figure (plain x) ≡ x) → (size : ℕ) (d : F) (bs : List (Member F)) (m : Member F) (cs : List (Member F)) (place : ℕ) (before : List (Cell P)) (e : Cell P) (p : F)
-      → place ≡ length bs + 1 → place < length before → before ≡ laid o plain size d (bs ++ (m ∷ cs)) → p ≡ figure (get_or before place e).figure → p ≡ m.figure
-  read_figure figure back size d bs m cs place before e p here within are is =
-      let sized : length before ≡ size = ap length are ∙ length-map-range_with_len (cell_at o plain d (bs ++ (m ∷ cs))) 0 size in
-      is ∙ ap (λ c. figure c.figure) (read_cell size (cell_at o plain d (bs ++ (m ∷ cs))) before place e (omega arith) are)
-      ∙ back _ ∙ field_at_lem (λ m. m.figure) d o.zero bs m cs place here
+  -- A number was found at a place, and the figure p was read there.
+  module _ (figure : P → F) (back : (x : F) → figure (plain x) ≡ x) {size : ℕ} {l : Ledger F} (number n place : ℕ) {before : List (Cell P)} (e : Cell P) (p : F)
+      (held : Holds o plain size l before) (found : place_of number l.lives ≡ Some place) (counted : n ≡ length l.lives)
+      (within : place < length before) (is : p ≡ figure (get_or before place e).figure) where
+    a : Around number l.lives place
+    a = around number l.lives place found
 
-  pub take_out_held : (figure : P → F) → ((x : F) → figure (plain x) ≡ x) → (size : ℕ) (l : Ledger F) (number n place : ℕ) (before mid after : List (Cell P)) (e : Cell P) (p : F)
-      → Holds o plain size l before → place_of number l.lives ≡ Some place → n ≡ length l.lives → place < length before → p ≡ figure (get_or before place e).figure
-      → mid ≡ divided o plain figure p (take (n + 1) before) ++ drop (n + 1) before
-      → (place ≤ n → (size : ℕ) (figures kept sums : ℕ → P) (numbers left : ℕ → ℕ) → Ends n (plain o.zero) figures → Ends n 0 numbers → Closed place figures kept → Closed place numbers left → mid ≡ cells_of size figures sums numbers → after ≡ cells_of size kept sums left)
-      → Holds o plain size (left l number) after
-  take_out_held figure back size l number n place before mid after e p held found counted within is divide close =
-      let a : Around number l.lives place = around number l.lives place found in
-      let bs : List (Member F) = a.before in
-      let m : Member F = a.life in
-      let cs : List (Member F) = a.after in
-      let all : List (Member F) = bs ++ (m ∷ cs) in
-      let rest : List (Member F) = bs ++ cs in
-      let many : n ≡ length all = counted ∙ ap length a.are in
-      let long : length all ≡ length bs + (length cs + 1) = length-append bs (m ∷ cs) ∙ ap (λ i. length bs + i) (sym (add-one (length cs))) in
-      let short : length rest ≡ length bs + length cs = length-append bs cs in
-      let are : before ≡ laid o plain size l.whole all = held.are ∙ ap (laid o plain size l.whole) a.are in
-      let sized : length before ≡ size = ap length are ∙ length-map-range_with_len (cell_at o plain l.whole all) 0 size in
-      let room : n < size = omega (arith, held.few, held.room) in
-      let out : p ≡ m.figure = read_figure figure back size l.whole bs m cs place before e p a.here within are is in
-      let mid-is : mid ≡ cells_of size (figure_at l.whole all) (λ k. plain (sums_of L rest k)) (number_at all) =
-      divide ∙ ap₂ (λ q cells. divided o plain figure q (take (n + 1) cells) ++ drop (n + 1) cells) out are
-      ∙ divided_front L plain figure back (figure_at l.whole all) (number_at all) m.figure size n (sums_of L all) (sums_of L rest) room (sums_end L all n (omega arith)) (sums_end L rest n (omega arith)) (sums_at L bs m cs) in
-      let after_is : after ≡ laid o plain size l.whole rest =
-      close (omega (arith, a.here)) size (figure_at l.whole all) (figure_at l.whole rest) (λ k. plain (sums_of L rest k)) (number_at all) (number_at rest)
-      (figures_end l.whole all n many) (field_ends (λ m. m.number) 0 0 all n many)
-      (field_closed (λ m. m.figure) l.whole o.zero plain bs m cs place a.here) (field_closed (λ m. m.number) 0 0 (λ k. k) bs m cs place a.here) mid-is in
-      record {
-        room = held.room;
-        few = omega (arith, held.few, ap length a.gone);
-        numbered = subst (AllByRecursion (λ m. m.number ≢ 0)) (sym a.gone) (all_without (λ m. m.number ≢ 0) bs m cs (subst (AllByRecursion (λ m. m.number ≢ 0)) a.are held.numbered));
-        are = after_is ∙ ap (laid o plain size l.whole) (sym a.gone);
-      }
+    abbrev bs : List (Member F)
+    bs = a.before
 
-  pub alter_held : (figure : P → F) → ((x : F) → figure (plain x) ≡ x) → (size : ℕ) (l : Ledger F) (number n place : ℕ) (before after : List (Cell P)) (e e' : Cell P) (p x : F) (y : P)
-      → Holds o plain size l before → place_of number l.lives ≡ Some place → n ≡ length l.lives → place < length before → p ≡ figure (get_or before place e).figure
-      → after ≡ exchanged o plain figure p x (take (n + 1) before) ++ drop (n + 1) before
-      → y ≡ plain x
-      → Holds o plain size (altered l number x) (set after place (record { figure = y; sum = (get_or after place e').sum; number = (get_or after place e').number }))
-  alter_held figure back size l number n place before after e e' p x y held found counted within is exchange written =
-      let a : Around number l.lives place = around number l.lives place found in
-      let bs : List (Member F) = a.before in
-      let m : Member F = a.life in
-      let cs : List (Member F) = a.after in
-      let m' : Member F = record { number = number; figure = x } in
-      let all : List (Member F) = bs ++ (m ∷ cs) in
-      let new : List (Member F) = bs ++ (m' ∷ cs) in
-      let many : n ≡ length all = counted ∙ ap length a.are in
-      let long : length new ≡ length all = length-append bs (m' ∷ cs) ∙ sym (length-append bs (m ∷ cs)) in
-      let are : before ≡ laid o plain size l.whole all = held.are ∙ ap (laid o plain size l.whole) a.are in
-      let sized : length before ≡ size = ap length are ∙ length-map-range_with_len (cell_at o plain l.whole all) 0 size in
-      let room : n < size = omega (arith, held.few, held.room) in
-      let out : p ≡ m.figure = read_figure figure back size l.whole bs m cs place before e p a.here within are is in
-      let f : ℕ → Cell P = cell_of (figure_at l.whole all) (λ k. plain (sums_of L new k)) (number_at all) in
-      let after_is : after ≡ map f (range_with_len 0 size) =
-      exchange ∙ ap₂ (λ q cells. exchanged o plain figure q x (take (n + 1) cells) ++ drop (n + 1) cells) out are
-      ∙ exchanged_front L plain figure back (figure_at l.whole all) (number_at all) m.figure x size n (sums_of L all) (sums_of L (bs ++ cs)) (sums_of L new) room (sums_end L all n (omega arith)) (sums_end L new n (omega arith)) (sums_at L bs m cs) (sums_at L bs m' cs) in
-      let again : Cell P = get_or after place e' in
-      let again-is : again ≡ f place = read_cell size f after place e' (omega arith) after_is in
-      let cell : Cell P = record { figure = y; sum = again.sum; number = again.number } in
-      let number_is : again.number ≡ number_at new place =
-      ap (λ c. c.number) again-is ∙ field_at_lem (λ m. m.number) 0 0 bs m cs place a.here ∙ a.named ∙ sym (field_at_lem (λ m. m.number) 0 0 bs m' cs place a.here) in
-      let after-laid : set after place cell ≡ laid o plain size l.whole new =
-      ap (λ xs. set xs place cell) after_is
-      ∙ set_map_counting f (cell_at o plain l.whole new) size place cell
-      (same_cell cell (cell_at o plain l.whole new place) (written ∙ ap plain (sym (field_at_lem (λ m. m.figure) l.whole o.zero bs m' cs place a.here))) (ap (λ c. c.sum) again-is) number_is)
-      (λ k h ne. same_cell (f k) (cell_at o plain l.whole new k) (ap plain (field_other (λ m. m.figure) l.whole o.zero bs m m' cs place k a.here ne)) refl (field_other (λ m. m.number) 0 0 bs m m' cs place k a.here ne)) in
-      let ok : AllByRecursion (λ m. m.number ≢ 0) all = subst (AllByRecursion (λ m. m.number ≢ 0)) a.are held.numbered in
-      record {
-        room = held.room;
-        few = omega (arith, held.few, ap length (a.anew x), ap length a.are);
-        numbered = subst (AllByRecursion (λ m. m.number ≢ 0)) (sym (a.anew x)) (all_instead (λ m. m.number ≢ 0) bs m m' cs (λ z. all_at (λ m. m.number ≢ 0) bs m cs ok (a.named ∙ z)) ok);
-        are = after-laid ∙ ap (laid o plain size l.whole) (sym (a.anew x));
-      }
+    abbrev m : Member F
+    m = a.life
+
+    abbrev cs : List (Member F)
+    cs = a.after
+
+    abbrev all : List (Member F)
+    all = bs ++ (m ∷ cs)
+
+    many : n ≡ length all
+    many = counted ∙ ap length a.are
+
+    are : before ≡ laid o plain size l.whole all
+    are = held.are ∙ ap (laid o plain size l.whole) a.are
+
+    room : n < size
+    room = omega (arith, held.few, held.room, length_held held)
+
+    out : p ≡ m.figure
+    out =
+        read_figure figure back held place e p within is
+        ∙ ap (λ lives. get_or (l.whole ∷ figures lives) place o.zero) a.are ∙ field_at_lem (λ m. m.figure) l.whole o.zero bs m cs place a.here
+
+    ok : AllByRecursion (λ m. m.number ≢ 0) bs × (m.number ≢ 0) × AllByRecursion (λ m. m.number ≢ 0) cs
+    ok = all_around (λ m. m.number ≢ 0) bs m cs (subst (AllByRecursion (λ m. m.number ≢ 0)) a.are held.numbered)
+
+    pub take_out_held : (mid after : List (Cell P)) → mid ≡ divided o plain figure p (take (n + 1) before) ++ drop (n + 1) before
+        → (place ≤ n → (size : ℕ) (figures kept sums : ℕ → P) (numbers left : ℕ → ℕ) → Ends n (plain o.zero) figures → Ends n 0 numbers → Closed place figures kept → Closed place numbers left → mid ≡ cells_of size figures sums numbers → after ≡ cells_of size kept sums left)
+        → Holds o plain size (left l number) after
+    take_out_held mid after divide close =
+        let rest : List (Member F) = bs ++ cs in
+        let long : length all ≡ length bs + (length cs + 1) = length-append bs (m ∷ cs) ∙ ap (λ i. length bs + i) (sym (add-one (length cs))) in
+        let short : length rest ≡ length bs + length cs = length-append bs cs in
+        let mid-is : mid ≡ cells_of size (figure_at l.whole all) (λ k. plain (sums_of L rest k)) (number_at all) =
+        divide ∙ ap₂ (λ q cells. divided o plain figure q (take (n + 1) cells) ++ drop (n + 1) cells) out are
+        ∙ divided_front L plain figure back (figure_at l.whole all) (number_at all) m.figure size n (sums_of L all) (sums_of L rest) room (sums_end L all n (omega (arith, many))) (sums_end L rest n (omega (arith, many))) (sums_at L bs m cs) in
+        let after_is : after ≡ laid o plain size l.whole rest =
+        close (omega (arith, many, a.here)) size (figure_at l.whole all) (figure_at l.whole rest) (λ k. plain (sums_of L rest k)) (number_at all) (number_at rest)
+        (figures_end l.whole all n many) (field_ends (λ m. m.number) 0 0 all n many)
+        (field_closed (λ m. m.figure) l.whole o.zero plain bs m cs place a.here) (field_closed (λ m. m.number) 0 0 (λ k. k) bs m cs place a.here) mid-is in
+        record {
+          room = held.room;
+          few = omega (arith, many, held.few, ap length a.gone);
+          numbered = subst (AllByRecursion (λ m. m.number ≢ 0)) (sym a.gone) (All-append (λ m. m.number ≢ 0) bs cs ok.0 ok.2);
+          are = after_is ∙ ap (laid o plain size l.whole) (sym a.gone);
+        }
+
+    pub alter_held : (after : List (Cell P)) (e' : Cell P) (x : F) (y : P) → after ≡ exchanged o plain figure p x (take (n + 1) before) ++ drop (n + 1) before → y ≡ plain x
+        → Holds o plain size (altered l number x) (set after place (record { figure = y; sum = (get_or after place e').sum; number = (get_or after place e').number }))
+    alter_held after e' x y exchange written =
+        let m' : Member F = record { number = number; figure = x } in
+        let new : List (Member F) = bs ++ (m' ∷ cs) in
+        let long : length new ≡ length all = length-append bs (m' ∷ cs) ∙ sym (length-append bs (m ∷ cs)) in
+        let f : ℕ → Cell P = cell_of (figure_at l.whole all) (λ k. plain (sums_of L new k)) (number_at all) in
+        let after_is : after ≡ map f (range_with_len 0 size) =
+        exchange ∙ ap₂ (λ q cells. exchanged o plain figure q x (take (n + 1) cells) ++ drop (n + 1) cells) out are
+        ∙ exchanged_front L plain figure back (figure_at l.whole all) (number_at all) m.figure x size n (sums_of L all) (sums_of L (bs ++ cs)) (sums_of L new) room (sums_end L all n (omega (arith, many))) (sums_end L new n (omega (arith, many))) (sums_at L bs m cs) (sums_at L bs m' cs) in
+        let again : Cell P = get_or after place e' in
+        let again-is : again ≡ f place = get_or_counting f size after after_is place e' (omega (arith, length_held held)) in
+        let cell : Cell P = record { figure = y; sum = again.sum; number = again.number } in
+        let number_is : again.number ≡ number_at new place =
+        ap (λ c. c.number) again-is ∙ field_at_lem (λ m. m.number) 0 0 bs m cs place a.here ∙ a.named ∙ sym (field_at_lem (λ m. m.number) 0 0 bs m' cs place a.here) in
+        let after-laid : set after place cell ≡ laid o plain size l.whole new =
+        ap (λ xs. set xs place cell) after_is
+        ∙ set_map_counting f (cell_at o plain l.whole new) size place cell
+        (same_cell cell (cell_at o plain l.whole new place) (written ∙ ap plain (sym (field_at_lem (λ m. m.figure) l.whole o.zero bs m' cs place a.here))) (ap (λ c. c.sum) again-is) number_is)
+        (λ k h ne. same_cell (f k) (cell_at o plain l.whole new k) (ap plain (field_other (λ m. m.figure) l.whole o.zero bs m m' cs place k a.here ne)) refl (field_other (λ m. m.number) 0 0 bs m m' cs place k a.here ne)) in
+        record {
+          room = held.room;
+          few = omega (arith, held.few, ap length (a.anew x), ap length a.are);
+          numbered = subst (AllByRecursion (λ m. m.number ≢ 0)) (sym (a.anew x)) (All-append (λ m. m.number ≢ 0) bs (m' ∷ cs) ok.0 ((λ z. ok.1 (a.named ∙ z)), ok.2));
+          are = after-laid ∙ ap (laid o plain size l.whole) (sym (a.anew x));
+        }
 
   -- Past cell 0 the cells of a ledger without lives are zero, and cell 0 is the same with lives.
   laid_past : (d : F) (k : ℕ) → 1 ≤ k → cell_at o plain d [] k ≡ zero_cell o plain
   laid_past d zero h = absurd (omega arith)
-  laid_past d (suc k) h = same_cell (cell_at o plain d [] (suc k)) (zero_cell o plain) refl (ap plain (elementary_suc_nil L k)) refl
+  laid_past d (suc k) h = same_cell (cell_at o plain d [] (suc k)) (zero_cell o plain) refl (ap plain (elementary_beyond L (suc k) [] (omega arith))) refl
 
   laid_first : (d : F) (lives : List (Member F)) (first : Cell P) → first.figure ≡ plain d → first.sum ≡ plain o.one → first.number ≡ 0 → first ≡ cell_at o plain d lives 0
   laid_first d lives first f s n = same_cell first (cell_at o plain d lives 0) f (s ∙ ap plain (sym (elementary_zero L (figures lives)))) n

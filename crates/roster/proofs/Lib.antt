@@ -1,4 +1,5 @@
 pub mod Calls
+pub mod Filled
 pub mod Gaps
 pub mod Holding
 pub mod Laying
@@ -10,5 +11,5 @@ pub mod QuestionsWays
 pub mod RowsComposed
 pub mod RowsTable
 pub mod RowsTriangle
-pub mod Sums
 pub mod Runs
+pub mod Sums

@@ -1,8 +1,10 @@
 -- Where a number stands among the lives. Assumes nothing.
-use Rattle.std.proofs.Common.{◌≡◌, ℕ, suc, ◌+◌, ◌<◌, ◌≤◌, Bool, true, false, not, cond, ◌||◌, eqb, ltb, ◌⊎◌, List, [], ◌∷◌, ◌++◌, map, length, Some, None, Option, sym, refl, ap, ◌∙◌, ap₂, inl, inr, arith}
+use Rattle.std.proofs.Common.{◌≡◌, ℕ, suc, ◌+◌, Bool, true, false, not, cond, ◌||◌, eqb, leb, ltb, ◌⊎◌, List, [], ◌∷◌, ◌++◌, map, length, Some, None, Option, sym, refl, ap, ◌∙◌, ap₂, inl, inr, one-add, arith}
+use lib.Dec.{leb-suc-suc}
 use Rattle.std.specs.List.{position, position_or_len}
 use Rattle.std.specs.Option.{option_map, is_some}
-use Rattle.std.proofs.lemmas.Bool.{cases_lt, lt-ltb, le-ltb, eqb-true, cases_Bool, cond-true, cond-false, or_left}
+use Rattle.std.proofs.lemmas.Bool.{lt-ltb, eqb-true, cases_Bool, cond-true, cond-false, or_left}
+use Rattle.std.proofs.lemmas.Option.{none-some, same_Some}
 use Rattle.roster.specs.Ledger.{Member, numbers, present, further, place_of, without, changed}
 use Rattle.roster.specs.declared.cells.Cell.{Cell}
 
@@ -11,16 +13,11 @@ abbrev found_at : ℕ → ℕ → Option ℕ
 found_at q long = option_map (λ i. i + 1) (cond (ltb q long) (Some q) None)
 
 found_further : (q long : ℕ) → found_at (1 + q) (suc long) ≡ further (found_at q long)
-found_further q long = at (cases_lt q long)
+found_further q long = ap (λ b. option_map (λ i. i + 1) (cond b (Some (1 + q)) None)) (leb-suc-suc (1 + q) long ∙ ap (λ k. leb k long) (one-add q)) ∙ both (ltb q long)
   where
-    at : (q < long) ⊎ (long ≤ q) → found_at (1 + q) (suc long) ≡ further (found_at q long)
-    at (inl h) =
-        let same : 1 + q + 1 ≡ q + 1 + 1 = omega arith in
-        ap (option_map (λ i. i + 1)) (cond-true (ltb (1 + q) (suc long)) (Some (1 + q)) None (lt-ltb (1 + q) (suc long) (omega arith))) ∙ ap Some same
-        ∙ ap (λ p. further (option_map (λ i. i + 1) p)) (sym (cond-true (ltb q long) (Some q) None (lt-ltb q long h)))
-    at (inr h) =
-        ap (option_map (λ i. i + 1)) (cond-false (ltb (1 + q) (suc long)) (Some (1 + q)) None (le-ltb (1 + q) (suc long) (omega arith)))
-        ∙ ap (λ p. further (option_map (λ i. i + 1) p)) (sym (cond-false (ltb q long) (Some q) None (le-ltb q long h)))
+    both : (b : Bool) → option_map (λ i. i + 1) (cond b (Some (1 + q)) None) ≡ further (option_map (λ i. i + 1) (cond b (Some q) None))
+    both true = let same : 1 + q + 1 ≡ q + 1 + 1 = omega arith in ap Some same
+    both false = refl
 
 -- The place of a number among cells that have the lives' numbers.
 pub placed : {F P : Type 0} (n : ℕ) (cells : List (Cell P)) (lives : List (Member F)) → map (λ cell. cell.number) cells ≡ numbers lives
@@ -67,18 +64,15 @@ pub record Around {F : Type 0} (n : ℕ) (lives : List (Member F)) (place : ℕ)
   pub anew : (x : F) → changed n x lives ≡ before ++ (record { number = n; figure = x } ∷ after)
   pub named : life.number ≡ n
 
-some_same : (j k : ℕ) → ◌≡◌ {A = Option ℕ} (Some j) (Some k) → j ≡ k
-some_same j k e = cc
-
 pub around : {F : Type 0} (n : ℕ) (lives : List (Member F)) (place : ℕ) → place_of n lives ≡ Some place → Around n lives place
-around n [] place e = let z : ◌≡◌ {A = ℕ} 0 1 = cc in absurd (omega arith)
+around n [] place e = absurd (none-some place e)
 around {F} n (m ∷ ms) place e = at (around n ms) (cases_Bool (eqb m.number n))
   where
     deeper : ((k : ℕ) → place_of n ms ≡ Some k → Around n ms k) → (p : Option ℕ) → place_of n ms ≡ p → further p ≡ Some place → eqb m.number n ≡ false → Around n (m ∷ ms) place
-    deeper rest None is f differs = let z : ◌≡◌ {A = ℕ} 0 1 = cc in absurd (omega arith)
+    deeper rest None is f differs = absurd (none-some place f)
     deeper rest (Some k) is f differs =
         let a : Around n ms k = rest k is in
-        let k-is : k + 1 ≡ place = some_same (k + 1) place f in
+        let k-is : k + 1 ≡ place = same_Some (k + 1) place f in
         record {
           before = m ∷ a.before;
           life = a.life;
@@ -92,7 +86,7 @@ around {F} n (m ∷ ms) place e = at (around n ms) (cases_Bool (eqb m.number n))
 
     at : ((k : ℕ) → place_of n ms ≡ Some k → Around n ms k) → (eqb m.number n ≡ true) ⊎ (eqb m.number n ≡ false) → Around n (m ∷ ms) place
     at rest (inl t) =
-        let one : 1 ≡ place = some_same 1 place (sym (cond-true (eqb m.number n) (Some 1) (further (place_of n ms)) t) ∙ e) in
+        let one : 1 ≡ place = same_Some 1 place (sym (cond-true (eqb m.number n) (Some 1) (further (place_of n ms)) t) ∙ e) in
         record {
           before = [];
           life = m;

@@ -1,12 +1,11 @@
 -- What a question reads from cells that hold a ledger, and that it leaves them so. Assumes nothing.
-use Rattle.std.proofs.Common.{◌≡◌, ℕ, ◌+◌, ◌<◌, ◌≤◌, Bool, true, false, cond, leb, List, ◌∷◌, ◌++◌, map, length, ◌-◌, get_or, take, drop, sym, ap, ◌∙◌, add-one, arith, length-drop}
-use Rattle.std.proofs.lemmas.List.{get_or-take, get_or-drop, length-take-le}
+use Rattle.std.proofs.Common.{◌≡◌, ℕ, ◌+◌, ◌<◌, ◌≤◌, Bool, true, false, cond, leb, List, ◌∷◌, ◌++◌, map, length, get_or, drop, sym, ap, ◌∙◌, add-one, arith}
 use Rattle.std.proofs.lemmas.Bool.{cond-true, le-leb}
 use Rattle.algebra.specs.Ring.{Ops, Laws, semi}
 use Rattle.algebra.specs.Rows.{row}
 use Rattle.algebra.specs.Sums.{elementary, against}
 use Rattle.algebra.proofs.Waring.{entry, exactly_entry, at_least_entry}
-use Rattle.roster.specs.Ledger.{Ledger, Figure, Table, Exactly, AtLeast, figures, answer, exactly_of, at_least_of, row_of, row_answer}
+use Rattle.roster.specs.Ledger.{Ledger, Answer, Refused, Figure, Table, Exactly, AtLeast, figures, answer, exactly_of, at_least_of, row_of, row_answer}
 use Rattle.roster.specs.Cells.{Holds}
 use Rattle.roster.specs.declared.cells.Cell.{Cell}
 use Rattle.roster.proofs.Laying.{length_held, get_or_held}
@@ -18,31 +17,22 @@ module _ {F P : Type 0} {o : Ops F} {plain : F → P} (figure : P → F) (back :
   pub read_sum : (k : ℕ) (x : Cell P) (y : F) → k < length cells → y ≡ figure (get_or cells k x).sum → y ≡ elementary o k (figures l.lives)
   read_sum k x y h e = e ∙ ap (λ c. figure c.sum) (get_or_held held k x (omega (arith, length_held held))) ∙ back _
 
--- The cells from place k on, m more than one of them.
-module _ {X : Type 0} (xs : List X) (k m : ℕ) (within : k + m < length xs) where
-  pub length_part : length (take (k + m + 1 - k) (drop k xs)) ≡ m + 1
-  length_part = omega (arith, length-take-le (k + m + 1 - k) (drop k xs) (omega (arith, length-drop k xs)))
-
-  pub get_or_part : (t : ℕ) (x : X) → t < m + 1 → get_or (take (k + m + 1 - k) (drop k xs)) t x ≡ get_or xs (k + t) x
-  get_or_part t x h = get_or-take (k + m + 1 - k) (drop k xs) t x (omega arith) ∙ get_or-drop k xs t x
-
 -- A question alters nothing, whether it was refused or not.
 pub asked : {F P : Type 0} {o : Ops F} {plain : F → P} {size : ℕ} {l : Ledger F} {cells : List (Cell P)} → Holds o plain size l cells
     → (refused : Bool) → Holds o plain size (record { whole = l.whole; capacity = l.capacity; lives = cond refused l.lives l.lives }) cells
-asked held true = record { room = held.room; few = held.few; numbered = held.numbered; are = held.are }
-asked held false = record { room = held.room; few = held.few; numbered = held.numbered; are = held.are }
+asked held true = held
+asked held false = held
 
 -- The answers to the two questions for a figure, where the count p that was looked up is the one k that was asked for.
 module _ {F P : Type 0} {o : Ops F} (plain : F → P) (L : Laws o) (l : Ledger F) (p k : ℕ) (r : F) (same : p ≡ k) (small : k ≤ 64) where
+  figure_asked : (f : ℕ → F) → r ≡ f p → ◌≡◌ {A = Answer F P} (Figure r) (cond (leb k 64) (Figure (f k)) (Refused 5))
+  figure_asked f known = ap Figure (known ∙ ap f same) ∙ sym (cond-true (leb k 64) _ _ (le-leb k 64 small))
+
   pub exactly_asked : r ≡ entry o l.whole (figures l.lives) (p + 1) p → Figure r ≡ answer o plain l (Exactly k)
-  exactly_asked e =
-      let known : r ≡ exactly_of o plain l p = e ∙ ap (λ j. entry o l.whole (figures l.lives) j p) (add-one p) ∙ sym (exactly_entry L l.whole (figures l.lives) p) in
-      ap Figure (known ∙ ap (exactly_of o plain l) same) ∙ sym (cond-true (leb k 64) _ _ (le-leb k 64 small))
+  exactly_asked e = figure_asked (exactly_of o plain l) (e ∙ ap (λ j. entry o l.whole (figures l.lives) j p) (add-one p) ∙ sym (exactly_entry L l.whole (figures l.lives) p))
 
   pub at_least_asked : r ≡ entry o l.whole (figures l.lives) p p → Figure r ≡ answer o plain l (AtLeast k)
-  at_least_asked e =
-      let known : r ≡ at_least_of o plain l p = e ∙ sym (at_least_entry L l.whole (figures l.lives) p) in
-      ap Figure (known ∙ ap (at_least_of o plain l) same) ∙ sym (cond-true (leb k 64) _ _ (le-leb k 64 small))
+  at_least_asked e = figure_asked (at_least_of o plain l) (e ∙ sym (at_least_entry L l.whole (figures l.lives) p))
 
 -- The answer to a question for a row, where the table has room for it.
 pub row_asked : {F P : Type 0} (o : Ops F) (plain : F → P) (l : Ledger F) (before after : List P) (n : ℕ) → n ≡ length l.lives → n < length before

@@ -2,17 +2,13 @@
 use Rattle.std.proofs.Common.{◌≡◌, ℕ, zero, suc, ◌+◌, ◌^◌, ◌<◌, ◌≤◌, get_or, set, replicate, refl, add_comm, add-one, arith}
 use Rattle.std.proofs.lemmas.List.{get_or-replicate}
 use Rattle.algebra.proofs.Binomial.{ways, ways_fits}
+use Rattle.algebra.proofs.Rows.{below}
 
--- The coefficient before place t, where there is one.
-abbrev pub ways_before : ℕ → ℕ → ℕ
-ways_before j zero = 0
-ways_before j (suc t) = ways j t
-
-pub ways_sum : (j t : ℕ) → ways_before (j + 1) t + ways j t ≡ ways (j + 1) t
+ways_sum : (j t : ℕ) → below 0 (ways (j + 1)) t + ways j t ≡ ways (j + 1) t
 ways_sum j zero = refl
 ways_sum j (suc t) = rw add-one (add_comm (ways (suc j) t) (ways j (suc t)))
 
-pub ways_sum_fits : (j last t : ℕ) → j + 1 + last ≤ 65 → t ≤ last → ways_before (j + 1) t + ways j t < 2 ^ 64
+pub ways_sum_fits : (j last t : ℕ) → j + 1 + last ≤ 65 → t ≤ last → below 0 (ways (j + 1)) t + ways j t < 2 ^ 64
 ways_sum_fits j last t fits h = rw ways_sum (omega (arith, ways_fits (j + 1) t (omega arith)))
 
 -- Before the first pass.

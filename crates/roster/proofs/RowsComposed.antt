@@ -1,5 +1,5 @@
 -- The composed row: one pass, and one life after the other. Assumes nothing.
-use Rattle.std.proofs.Common.{◌≡◌, ℕ, ◌+◌, ◌<◌, ◌≤◌, List, [], ◌∷◌, ◌++◌, map, length, get_or, take, drop, set, sym, refl, ap, ◌∙◌, ap₂, add-one, arith}
+use Rattle.std.proofs.Common.{◌≡◌, ℕ, ◌+◌, ◌<◌, ◌≤◌, List, [], ◌∷◌, ◌++◌, map, length, get_or, take, drop, set, sym, ap, ◌∙◌, ap₂, add-one, arith}
 use Rattle.std.proofs.lemmas.List.{length-map, length-take-le, map_more, drop_more, take_at, drop_at, take_all, nil_from_length}
 use Rattle.algebra.specs.Ring.{Semi, Ops, Laws, semi}
 use Rattle.algebra.specs.Patterns.{Life, exactly}
@@ -30,7 +30,7 @@ module _ {F P : Type 0} {s : Semi F} (L : SemiLaws s) (plain : F → P) where
         let front = map plain (row s (i + 1 + 1) ls) in
         let long : length front ≡ i + 1 + 1 = length_row plain (λ k. exactly s k ls) (i + 1 + 1) in
         let none : exactly s (i + 1) ls ≡ s.zero = exactly_beyond L (i + 1) ls (omega arith) in
-        let grown : set table (i + 1) w ≡ front ++ rest = grow_row plain (λ k. exactly s k ls) (i + 1) (i + 1 + 1) old rest table w refl is (is-w ∙ ap plain (is-v ∙ sym none)) in
+        let grown : set table (i + 1) w ≡ front ++ rest = grow_row plain (λ k. exactly s k ls) (i + 1) old rest table w is (is-w ∙ ap plain (is-v ∙ sym none)) in
         let taken : take (i + 1 + 1) (set table (i + 1) w) ≡ front = ap (take (i + 1 + 1)) grown ∙ take_at front rest (i + 1 + 1) long in
         let left : drop (i + 1 + 1) (set table (i + 1) w) ≡ rest = ap (drop (i + 1 + 1)) grown ∙ drop_at front rest (i + 1 + 1) long in
         let pass : composed s plain figure l s.zero front ≡ map plain (row s (i + 1 + 1) (ls ++ (l ∷ []))) =

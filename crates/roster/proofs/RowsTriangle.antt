@@ -1,8 +1,6 @@
 -- The triangle over a row. Assumes nothing.
-use Rattle.std.proofs.Common.{◌≡◌, ℕ, zero, suc, ◌+◌, ◌-◌, ◌<◌, ◌≤◌, List, [], ◌∷◌, ◌++◌, map, length, get_or, take, drop, set, sym, refl, ap, ◌∙◌, subst, ap₂, append_assoc, append-nil, zero-add, add-one, arith}
-use mathlib.Core.List.{map-append}
+use Rattle.std.proofs.Common.{◌≡◌, ℕ, zero, suc, ◌+◌, ◌-◌, ◌<◌, ◌≤◌, List, [], ◌∷◌, ◌++◌, map, length, get_or, take, drop, set, sym, refl, ap, ◌∙◌, subst, ap₂, append_assoc, append-nil, add-one, arith}
 use Rattle.std.specs.List.{range_with_len}
-use Rattle.std.proofs.lemmas.List.FromFn.{map-range_with_len_more}
 use Rattle.std.proofs.lemmas.List.{length-take-le, take_more, drop_more, drop-set, set_at, get_or_at, take_at, drop_at}
 use Rattle.algebra.specs.Ring.{Ops, Laws, semi}
 use Rattle.algebra.specs.Patterns.{exactly}
@@ -10,7 +8,7 @@ use Rattle.algebra.specs.Rows.{row}
 use Rattle.algebra.specs.Sums.{power, elementary, against}
 use Rattle.algebra.proofs.Waring.{entry, entry_none, entry_step, entry_last, entry_past, exactly_entry}
 use Rattle.roster.specs.Triangle.{differences}
-use Rattle.roster.proofs.RowsTable.{figures_back, length_row}
+use Rattle.roster.proofs.RowsTable.{figures_back, length_row, row_push}
 
 -- A pass, from the last place down: the places below t are old.
 module _ {F P : Type 0} (o : Ops F) (plain : F → P) (figure : P → F) (entry : List P) where
@@ -76,12 +74,7 @@ module _ {F P : Type 0} {o : Ops F} (L : Laws o) (plain : F → P) (d : F) (ps :
 
   -- One place more that is done, and has x.
   row_more : (i : ℕ) (x : F) (xs : List P) → x ≡ entry o d ps (suc i) i → map plain (row (semi o) i (against o d ps)) ++ (plain x ∷ xs) ≡ map plain (row (semi o) (i + 1) (against o d ps)) ++ xs
-  row_more i x xs e =
-      let front = map plain (row (semi o) i (against o d ps)) in
-      let here : x ≡ exactly (semi o) i (against o d ps) = e ∙ sym (exactly_entry L d ps i) in
-      let more : map plain (row (semi o) (i + 1) (against o d ps)) ≡ front ++ (plain (exactly (semi o) i (against o d ps)) ∷ []) =
-      ap (map plain) (map-range_with_len_more (λ k. exactly (semi o) k (against o d ps)) 0 i i (zero-add i)) ∙ map-append plain (row (semi o) i (against o d ps)) (exactly (semi o) i (against o d ps) ∷ []) in
-      ap (λ y. front ++ (plain y ∷ xs)) here ∙ sym (append_assoc front (plain (exactly (semi o) i (against o d ps)) ∷ []) xs) ∙ ap (λ zs. zs ++ xs) (sym more)
+  row_more i x xs e = row_push plain (λ k. exactly (semi o) k (against o d ps)) i (plain x) xs (ap plain (e ∙ sym (exactly_entry L d ps i)))
 
   pub passes_more : (figure : P → F) → ((x : F) → figure (plain x) ≡ x) → (i : ℕ) (table new : List P) → i < length ps + 1 → table ≡ passes i
       → new ≡ map plain (differences o (map figure (drop i table))) → take i table ++ new ≡ passes (i + 1)

@@ -14,18 +14,18 @@ module _ {F P : Type 0} (o : Ops F) (plain : F → P) where
       let m = met size l h in
       (m.0, m.1, follows size (next o plain l call) m.1 rest)
 
-  -- one call more at the end of a run
-  pub answers_more : (l : Ledger F) (calls : List (Call F P)) (call : Call F P)
+  -- One call more at the end of a run.
+  answers_more : (l : Ledger F) (calls : List (Call F P)) (call : Call F P)
       → answers o plain l (calls ++ (call ∷ [])) ≡ answers o plain l calls ++ (answer o plain (final o plain l calls) call ∷ [])
   answers_more l [] call = refl
   answers_more l (c ∷ calls) call = ap (λ rest. answer o plain l c ∷ rest) (answers_more (next o plain l c) calls call)
 
-  pub final_more : (l : Ledger F) (calls : List (Call F P)) (call : Call F P)
+  final_more : (l : Ledger F) (calls : List (Call F P)) (call : Call F P)
       → final o plain l (calls ++ (call ∷ [])) ≡ next o plain (final o plain l calls) call
   final_more l [] call = refl
   final_more l (c ∷ calls) call = final_more (next o plain l c) calls call
 
--- a run, and one call more
+-- A run, and one call more.
 pub ran_more : {F P : Type 0} (o : Ops F) (plain : F → P) (size : ℕ) (start : Ledger F) (calls : List (Call F P)) (gives : List (Answer F P))
     (call : Call F P) (given : Answer F P) (cells after : List (Cell P))
     → gives ≡ answers o plain start calls → Holds o plain size (final o plain start calls) cells → Met o plain call cells given after

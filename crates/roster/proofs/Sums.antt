@@ -2,6 +2,8 @@
 use Rattle.std.proofs.Common.{◌≡◌, ℕ, zero, suc, ◌+◌, ◌<◌, ◌≤◌, List, [], ◌∷◌, ◌++◌, map, take, drop, sym, refl, ap, ◌∙◌, ap₂, add-one, arith}
 use Rattle.std.specs.List.{range_with_len, scan}
 use Rattle.algebra.specs.Ring.{Ops, Laws}
+use Rattle.algebra.proofs.Rows.{below}
+use Rattle.algebra.proofs.Semiring.{plus_undo}
 use Rattle.algebra.proofs.Solver.{ring, made}
 use Rattle.roster.specs.Passes.{cell_of, Ends, with_sum, rest, multiplied, divided, exchanged}
 use Rattle.roster.specs.declared.cells.Cell.{Cell}
@@ -15,7 +17,7 @@ module _ {S X : Type 0} (next : S → X → S) (out : S → X → X) where
   Passing start before i s cells = (drop i cells ≡ drop i before) × (take i cells ++ scan next out s (drop i before) ≡ scan next out start before)
 
   -- A pass over the first m of n cells, by place: where st is kept in hand there, f becomes g, and past them the two are alike.
-  pub passed : (f g : ℕ → X) (st : ℕ → S) → ((k : ℕ) → next (st k) (f k) ≡ st (k + 1)) → ((k : ℕ) → out (st k) (f k) ≡ g k)
+  passed : (f g : ℕ → X) (st : ℕ → S) → ((k : ℕ) → next (st k) (f k) ≡ st (k + 1)) → ((k : ℕ) → out (st k) (f k) ≡ g k)
       → (i m n : ℕ) → m ≤ n → ((k : ℕ) → i + m ≤ k → f k ≡ g k)
       → scan next out (st i) (take m (map f (range_with_len i n))) ++ drop m (map f (range_with_len i n)) ≡ map g (range_with_len i n)
   passed f g st kept written i zero zero h past = refl
@@ -31,24 +33,16 @@ pub record Multiplied {F : Type 0} (o : Ops F) (p : F) (without with : ℕ → F
   pub first : with 0 ≡ without 0
   pub after : (k : ℕ) → with (suc k) ≡ o.plus (without (suc k)) (o.times p (without k))
 
--- The sum below a place, with nothing below the first.
-abbrev below : {F : Type 0} → F → (ℕ → F) → ℕ → F
-below z sums zero = z
-below z sums (suc k) = sums k
-
 module _ {F : Type 0} {o : Ops F} (L : Laws o) (p : F) (low high : ℕ → F) (m : Multiplied o p low high) where
   -- One sum with the life, from two without it, and the other way round.
   with_life : (k : ℕ) → o.plus (low k) (o.times p (below o.zero low k)) ≡ high k
   with_life zero = ring L (low 0 ∷ p ∷ []) (search made depth 40 fits 100000) tt ∙ sym m.first
   with_life (suc k) = sym (m.after k)
 
-  undo : (x y : F) → o.plus (o.plus x y) (o.minus y) ≡ x
-  undo x y = ring L (x ∷ y ∷ []) (search made depth 40 fits 100000) tt
-
   without_life : (k : ℕ) → o.plus (high k) (o.minus (o.times p (below o.zero low k))) ≡ low k
-  without_life k = ap (λ x. o.plus x (o.minus (o.times p (below o.zero low k)))) (sym (with_life k)) ∙ undo (low k) (o.times p (below o.zero low k))
+  without_life k = ap (λ x. o.plus x (o.minus (o.times p (below o.zero low k)))) (sym (with_life k)) ∙ plus_undo L (low k) (o.times p (below o.zero low k))
 
-  pub multiplied_ends : (n : ℕ) → Ends n o.zero low → Ends (n + 1) o.zero high
+  multiplied_ends : (n : ℕ) → Ends n o.zero low → Ends (n + 1) o.zero high
   multiplied_ends n ends zero h = absurd (omega arith)
   multiplied_ends n ends (suc k) h = m.after k ∙ ap₂ (λ x y. o.plus x (o.times p y)) (ends (suc k) (omega arith)) (ends k (omega arith)) ∙ ring L (p ∷ []) (search made depth 40 fits 100000) tt
 

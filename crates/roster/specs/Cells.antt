@@ -7,9 +7,8 @@ use Rattle.roster.specs.Ledger.{Member, Ledger, Call, Answer, figures, numbers, 
 use Rattle.roster.specs.declared.cells.Cell.{Cell}
 
 module _ {F P : Type 0} (o : Ops F) (plain : F → P) where
-  -- Cell k: the whole for k = 0, else the k-th life's figure and number; and the k-th kept sum, so called since it is kept up
-  -- to date as lives come and go: the sum over all choices of k lives of the product of their figures. Past the last life the figure and the number are zero,
-  -- and so is the sum, which is then over no choices.
+  -- Cell k: the whole for k = 0, else the k-th life's figure and number; and the k-th kept sum, over all choices of k lives the
+  -- product of their figures, which is kept up to date as lives come and go. Past the last life all three are zero.
   abbrev pub cell_at : F → List (Member F) → ℕ → Cell P
   cell_at d lives k = record {
     figure = plain (slice_index_or (d ∷ figures lives) k o.zero);

@@ -1,11 +1,12 @@
 //! The lines that are read, and what is printed for each.
-ghost use Rattle.std.specs.Prelude.{◌≡◌, IfErr};
+ghost use Rattle.std.specs.Prelude.{◌≡◌, true, ◌&&◌, IfOk, IfErr, OnOk};
 ghost use Rattle.std.specs.IoError.{error_kind};
+ghost use Rattle.text.specs.Understood.{is_understood};
 
 use std::alloc::{AllocError, Global};
 use std::fmt::Display;
 use std::io::{self, BufWriter, ErrorKind, Stdout, Write};
-use text::{Lines, Unanswered, done, echo};
+use text::{Lines, Unanswered, done, echo_words};
 
 /// What is read and what is printed.
 #[derive(Drop)]
@@ -25,7 +26,8 @@ pub struct Printer {
 impl Printer {
     /// Where there is no memory for the buffer, nothing was printed.
     pub fn new(heap: Global, out: Stdout) -> io::Result<Printer>
-        ensures { IfErr result (λ e. error_kind e ≡ ErrorKind.OutOfMemory) }
+        ensures no_memory { IfErr result (λ e. error_kind e ≡ ErrorKind.OutOfMemory) }
+        ensures understood { IfOk result (λ p. p.understood ≡ true) }
     {
         Ok(Printer {
             heap,
@@ -39,7 +41,9 @@ impl Printer {
         &mut self,
         words: &[&[u8]],
         answer: Result<String, Unanswered>,
-    ) -> anyhow::Result<()> {
+    ) -> anyhow::Result<()>
+        ensures { OnOk result (self.new.understood ≡ (is_understood answer && self.old.understood)) }
+    {
         match answer {
             Ok(text) => self.line(words, &text),
             Err(Unanswered::Refused(refusal)) => self.line(words, &refusal),
@@ -51,25 +55,26 @@ impl Printer {
         }
     }
 
-    pub fn print_done(&mut self, words: &[&[u8]]) -> anyhow::Result<()> {
+    pub fn print_done(&mut self, words: &[&[u8]]) -> anyhow::Result<()>
+        ensures { OnOk result (self.new.understood ≡ self.old.understood) }
+    {
         let answer = done(self.heap)?;
         self.print(words, Ok(answer))
     }
 
     /// A command's words, an arrow and what came of it.
-    fn line(&mut self, words: &[&[u8]], answer: &impl Display) -> anyhow::Result<()> {
-        let mut echoed = Vec::new(self.heap);
-        for word in words {
-            echoed.extend(word.iter().map(|b| echo(*b)))?;
-            echoed.push(b' ')?;
-        }
-        self.out.write_all(&echoed)?;
+    fn line(&mut self, words: &[&[u8]], answer: &impl Display) -> anyhow::Result<()>
+        ensures { self.new.understood ≡ self.old.understood }
+    {
+        self.out.write_all(&echo_words(self.heap, words)?)?;
         writeln!(self.out, "-> {answer}")?;
         Ok(())
     }
 
     /// Prints what is still held back, and tells whether every line was understood.
-    pub fn finish(mut self) -> anyhow::Result<bool> {
+    pub fn finish(mut self) -> anyhow::Result<bool>
+        ensures { IfOk result (λ b. b ≡ self.understood) }
+    {
         self.out.flush()?;
         Ok(self.understood)
     }

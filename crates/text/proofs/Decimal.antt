@@ -1,57 +1,36 @@
 -- Reading decimal digits one by one. Assumes nothing.
-use Rattle.std.proofs.Common.{◌≡◌, ℕ, ◌+◌, ◌-◌, ◌*◌, ◌<◌, ◌≤◌, Bool, true, false, cond, ◌&&◌, leb, List, [], ◌∷◌, map, length, get_or, drop, Some, None, Option, sym, refl, ap, ◌∙◌, arith, le-leb, leb-true}
-use borrow.Author.Tests.{lt-leb}
+use Rattle.std.proofs.Common.{◌≡◌, ℕ, ◌+◌, ◌-◌, ◌*◌, ◌<◌, ◌≤◌, Bool, true, false, cond, ◌&&◌, leb, List, map, length, get_or, drop, Some, None, Option, refl, ap, ◌∙◌, arith, le-leb}
+use Rattle.std.proofs.lemmas.Bool.{and_right, lt-leb}
 use Rattle.std.specs.Int.Digits.{number_from_digits_after}
 use Rattle.std.proofs.lemmas.Int.Digits.{number_after_ge}
 use Rattle.std.proofs.lemmas.List.{drop_more, drop_all}
-use Rattle.text.specs.Text.{digit, digits, number_within}
+use Rattle.text.specs.Text.{digit, digits}
 
--- where digits that were read so far write n
+-- Where digits that were read so far write n.
 abbrev onto : ℕ → List ℕ → ℕ
 onto n cs = number_from_digits_after 10 n (map (λ c. c - 48) cs)
 
--- what comes of the rest
+-- What comes of the rest.
 abbrev pub rest : ℕ → ℕ → List ℕ → Option ℕ
 rest limit n cs = cond (digits cs && leb (onto n cs) limit) (Some (onto n cs)) None
 
-pub bounds : (c : ℕ) → digit c ≡ true → (48 ≤ c) × (c ≤ 57)
-bounds c d = (leb-true 48 c (first (leb 48 c) (leb c 57) d), leb-true c 57 (second (leb 48 c) (leb c 57) d))
+-- One byte more, which is a digit or is none.
+pub one_more : (limit n i : ℕ) (word : List ℕ) (b : Bool) → i < length word → digit (get_or word i 0) ≡ b
+    → rest limit n (drop i word) ≡ cond b (rest limit (n * 10 + (get_or word i 0 - 48)) (drop (i + 1) word)) None
+one_more limit n i word b h d =
+    let m : ℕ = n * 10 + (get_or word i 0 - 48) in
+    let cs : List ℕ = drop (i + 1) word in
+    ap (rest limit n) (drop_more word i 0 h) ∙ by_digit m cs (digit (get_or word i 0)) ∙ ap (λ t. cond t (rest limit m cs) None) d
   where
-    first : (a b : Bool) → (a && b) ≡ true → a ≡ true
-    first true b e = refl
-    first false b e = e
-
-    second : (a b : Bool) → (a && b) ≡ true → b ≡ true
-    second true b e = e
-    second false true e = refl
-    second false false e = e
-
-pub begins : (limit : ℕ) (word : List ℕ) → 0 < length word → number_within limit word ≡ rest limit 0 word
-begins limit [] h = absurd (omega arith)
-begins limit (c ∷ cs) h = refl
-
-pub goes_on : (limit n i : ℕ) (word : List ℕ) → i < length word → digit (get_or word i 0) ≡ true
-    → rest limit (n * 10 + (get_or word i 0 - 48)) (drop (i + 1) word) ≡ rest limit n (drop i word)
-goes_on limit n i word h d = sym (ap (rest limit n) (drop_more word i 0 h) ∙ one (get_or word i 0) (drop (i + 1) word) d)
-  where
-    one : (c : ℕ) (cs : List ℕ) → digit c ≡ true → rest limit n (c ∷ cs) ≡ rest limit (n * 10 + (c - 48)) cs
-    one c cs e = ap (λ b. cond ((b && digits cs) && leb (onto (n * 10 + (c - 48)) cs) limit) (Some (onto (n * 10 + (c - 48)) cs)) None) e
-
-pub no_digit : (limit n i : ℕ) (word : List ℕ) → i < length word → digit (get_or word i 0) ≡ false → rest limit n (drop i word) ≡ None
-no_digit limit n i word h d = ap (rest limit n) (drop_more word i 0 h) ∙ one (get_or word i 0) (drop (i + 1) word) d
-  where
-    one : (c : ℕ) (cs : List ℕ) → digit c ≡ false → rest limit n (c ∷ cs) ≡ None
-    one c cs e = ap (λ b. cond ((b && digits cs) && leb (onto (n * 10 + (c - 48)) cs) limit) (Some (onto (n * 10 + (c - 48)) cs)) None) e
+    by_digit : (m : ℕ) (cs : List ℕ) (t : Bool) → cond ((t && digits cs) && leb (onto m cs) limit) (Some (onto m cs)) None ≡ cond t (rest limit m cs) None
+    by_digit m cs true = refl
+    by_digit m cs false = refl
 
 pub too_large : (limit n : ℕ) (cs : List ℕ) → limit < n → rest limit n cs ≡ None
 too_large limit n cs h =
     let more : n ≤ onto n cs = number_after_ge 10 n (map (λ c. c - 48) cs) (omega arith) in
     let past : leb (onto n cs) limit ≡ false = lt-leb (onto n cs) limit (omega arith) in
-    ap (λ b. cond (digits cs && b) (Some (onto n cs)) None) past ∙ none (digits cs)
-  where
-    none : (b : Bool) → cond (b && false) (Some (onto n cs)) None ≡ None
-    none true = refl
-    none false = refl
+    ap (λ b. cond b (Some (onto n cs)) None) (and_right (digits cs) (leb (onto n cs) limit) past)
 
 pub ends : (limit n i : ℕ) (word : List ℕ) → length word ≤ i → n ≤ limit → rest limit n (drop i word) ≡ Some n
 ends limit n i word h fits = ap (rest limit n) (drop_all i word h) ∙ ap (λ b. cond b (Some n) None) (le-leb n limit fits)

@@ -7,13 +7,10 @@ use Rattle.std.specs.Fmt.{digit_glyph, digits, format_spec, padded_integral}
 use Rattle.std.specs.Simd.{first_chunks}
 use Rattle.text.specs.Text.{hex_digit, joined, hex_bytes, hex_char, hex_text}
 
--- the bytes that pairs of digits write
-abbrev pub pair_read : List ℕ → Option (List ℕ) → Option (List ℕ)
-pair_read p rest = joined (hex_digit (get_or p 0 0)) (hex_digit (get_or p 1 0)) rest
-
+-- The bytes that pairs of digits write.
 abbrev pub pairs_read : List (List ℕ) → Option (List ℕ)
 pairs_read [] = Some []
-pairs_read (p ∷ ps) = pair_read p (pairs_read ps)
+pairs_read (p ∷ ps) = joined (hex_digit (get_or p 0 0)) (hex_digit (get_or p 1 0)) (pairs_read ps)
 
 hex_pairs : (word : List ℕ) → length word % 2 ≡ 0 → pairs_read (first_chunks 2 (length word / 2) word) ≡ hex_bytes word
 hex_pairs [] h = refl
@@ -32,7 +29,7 @@ hex_odd (a ∷ b ∷ rest) h = ap (joined (hex_digit a) (hex_digit b)) (hex_odd 
     none (Some x) None = refl
     none (Some x) (Some y) = refl
 
--- bytes already read, and what comes of the rest
+-- Bytes already read, and what comes of the rest.
 abbrev pub onto : List ℕ → Option (List ℕ) → Option (List ℕ)
 onto xs None = None
 onto xs (Some ys) = Some (xs ++ ys)
@@ -48,7 +45,7 @@ onto_joined xs high low (Some ys) = ap Some (sym (append_assoc xs ((high * 16 + 
 pub pairs_first : (word : List ℕ) → length word % 2 ≡ 0 → onto [] (pairs_read (drop 0 (first_chunks 2 (length word / 2) word))) ≡ hex_bytes word
 pairs_first word h = onto_nothing _ ∙ hex_pairs word h
 
--- one pair more: d is what an index past the end reads
+-- One pair more: d is what an index past the end reads.
 module _ (pairs : List (List ℕ)) (i : ℕ) (d : List ℕ) (h : i < length pairs) (xs : List ℕ) (bytes : Option (List ℕ)) (inv : onto xs (pairs_read (drop i pairs)) ≡ bytes) where
   read : (a b : Option ℕ) → a ≡ hex_digit (get_or (get_or pairs i d) 0 0) → b ≡ hex_digit (get_or (get_or pairs i d) 1 0)
       → onto xs (joined a b (pairs_read (drop (i + 1) pairs))) ≡ bytes
@@ -74,7 +71,7 @@ module _ (pairs : List (List ℕ)) (i : ℕ) (d : List ℕ) (h : i < length pair
 pub pairs_all : (pairs : List (List ℕ)) (i : ℕ) (xs : List ℕ) (bytes : Option (List ℕ)) → length pairs ≤ i → onto xs (pairs_read (drop i pairs)) ≡ bytes → bytes ≡ Some xs
 pairs_all pairs i xs bytes h inv = sym inv ∙ ap (λ ps. onto xs (pairs_read ps)) (drop_all i pairs h) ∙ ap Some (append-nil xs)
 
--- one byte more as it is printed
+-- One byte more as it is printed.
 pub text_more : (bytes : List ℕ) (i : ℕ) → i < length bytes → get_or bytes i 0 < 256
     → hex_text (take i bytes) ++ padded_integral (format_spec 32 0 4 2 (2 ^ 64 - 1)) false [] (digits 16 false (get_or bytes i 0)) ≡ hex_text (take (i + 1) bytes)
 text_more bytes i h fits =

@@ -1,3 +1,5 @@
 pub mod Digits
 pub mod Decimal
 pub mod Spaces
+pub mod FirstLine
+pub mod Echoes

@@ -1,7 +1,7 @@
 -- Entries written one by one. Assumes nothing.
 use Rattle.std.proofs.Common.{◌≡◌, ℕ, ◌+◌, ◌-◌, ◌<◌, ◌≤◌, List, [], ◌∷◌, ◌++◌, map, length, get_or, take, drop, sym, refl, ap, ◌∙◌, append_assoc, append-nil, arith}
 use Rattle.std.proofs.lemmas.List.{drop_more, drop_all}
-use Rattle.std.proofs.lemmas.Slice.{between_to_end}
+use Rattle.std.proofs.lemmas.Slice.{first_rest}
 use Rattle.text.specs.Text.{others, spaced}
 
 module _ {P : Type 0} (text : P → List ℕ) where
@@ -18,10 +18,7 @@ module _ {P : Type 0} (text : P → List ℕ) where
 
   pub entry_first : (table : List P) (x : P) → 0 < length table → x ≡ get_or table 0 x
       → text x ++ others (map text (take (length table - 1) (drop 1 table))) ≡ spaced (map text table)
-  entry_first table x h e =
-      let whole : length table ≤ length table = omega arith in
-      let here : table ≡ x ∷ drop 1 table = drop_more table 0 x h ∙ ap (λ y. y ∷ drop 1 table) (sym e) in
-      ap (λ xs. text x ++ others (map text xs)) (between_to_end table 1 (length table) whole) ∙ ap (λ xs. spaced (map text xs)) (sym here)
+  entry_first table x h e = sym (ap (λ xs. spaced (map text xs)) (first_rest table x h ∙ ap (λ y. y ∷ take (length table - 1) (drop 1 table)) (sym e)))
 
   pub no_entries : (table : List P) → length table ≡ 0 → spaced (map text table) ≡ []
   no_entries [] h = refl

@@ -1,5 +1,6 @@
 -- What the program reads and prints, as functions on bytes. Assumes nothing.
-use Rattle.std.specs.Prelude.{ℕ, ◌+◌, ◌-◌, ◌*◌, ◌/◌, ◌%◌, Bool, true, cond, ◌&&◌, ◌||◌, List, [], ◌∷◌, ◌++◌, map, take, drop, Some, None, codes, decimal, Option, ◌==◌, nat_le, position}
+use Rattle.std.specs.Prelude.{ℕ, ◌+◌, ◌-◌, ◌*◌, ◌/◌, ◌%◌, Bool, true, false, cond, not, length, ◌&&◌, ◌||◌, List, [], ◌∷◌, ◌++◌, map, take, drop, Some, None, codes, decimal, Option, ◌==◌, nat_le, position}
+use Rattle.std.specs.List.{filter, slice_split}
 use Rattle.std.specs.Int.Digits.{number_from_digits}
 use Rattle.reply.specs.declared.Fields.{Fields}
 use Rattle.figures.specs.declared.kinds.Dual.{Dual}
@@ -11,6 +12,11 @@ blank b = b == 32 || (b == 9 || b == 13)
 -- A byte as it is echoed: a `?` for what is not a visible character of ASCII.
 abbrev pub echoed : ℕ → ℕ
 echoed b = cond (nat_le 33 b && nat_le b 126) b 63
+
+-- Words as they are echoed, with a blank behind each.
+abbrev pub echoed_words : List (List ℕ) → List ℕ
+echoed_words [] = []
+echoed_words (word ∷ words) = map echoed word ++ (32 ∷ echoed_words words)
 
 -- A hex digit's value, for either case.
 abbrev pub hex_digit : ℕ → Option ℕ
@@ -101,3 +107,35 @@ others (t ∷ ts) = 32 ∷ (t ++ others ts)
 abbrev pub spaced : List (List ℕ) → List ℕ
 spaced [] = []
 spaced (t ∷ ts) = t ++ others ts
+
+-- The words of a line are what stands between blanks.
+abbrev pub words_of : List ℕ → List (List ℕ)
+words_of line = filter (λ word. not (length word == 0)) (slice_split blank line)
+
+-- A line ends before the first newline, or with the input; the other lines begin behind that newline.
+abbrev pub newline_at : List ℕ → Option ℕ
+newline_at input = position (λ c. c == 10) input
+
+abbrev pub line_to : List ℕ → Option ℕ → List ℕ
+line_to input None = input
+line_to input (Some i) = take i input
+
+abbrev pub lines_from : List ℕ → Option ℕ → List ℕ
+lines_from input None = []
+lines_from input (Some i) = drop (i + 1) input
+
+abbrev pub first_line : List ℕ → List ℕ
+first_line input = line_to input (newline_at input)
+
+abbrev pub other_lines : List ℕ → List ℕ
+other_lines input = lines_from input (newline_at input)
+
+-- A line is a command where it has words, the first of which begins with no `#`.
+abbrev pub is_command : List (List ℕ) → Bool
+is_command [] = false
+is_command ([] ∷ words) = true
+is_command ((c ∷ cs) ∷ words) = not (c == 35)
+
+-- The words of each command, line by line.
+abbrev pub commands : List ℕ → List (List (List ℕ))
+commands input = filter is_command (map words_of (slice_split (λ c. c == 10) input))

@@ -1,7 +1,7 @@
 //! Bytes, hex and records as text.
-ghost use Rattle.std.specs.Prelude.{◌≡◌, ◌<◌, Some, IfSome, IfOk, vec_items, string_bytes};
+ghost use Rattle.std.specs.Prelude.{◌≡◌, ◌<◌, map, Some, IfSome, IfOk, vec_items, string_bytes};
 ghost use Rattle.std.specs.Option.{option_map};
-ghost use Rattle.text.specs.Text.{blank, echoed, hex_digit, hex_bytes, hex_text, fields_text};
+ghost use Rattle.text.specs.Text.{blank, echoed, echoed_words, hex_digit, hex_bytes, hex_text, fields_text};
 
 use reply::Fields;
 use std::alloc::{AllocError, Global};
@@ -13,10 +13,22 @@ pub fn is_blank(b: u8) -> bool
     matches!(b, b' ' | b'\t' | b'\r')
 }
 
-pub fn echo(b: u8) -> u8
+fn echo(b: u8) -> u8
     ensures { result ≡ echoed b }
 {
     if b.is_ascii_graphic() { b } else { b'?' }
+}
+
+/// Words as they are echoed, with a blank behind each.
+pub fn echo_words(heap: Global, words: &[&[u8]]) -> Result<Vec<u8>, AllocError>
+    ensures { IfOk result (λ text. text.items ≡ echoed_words (map (λ word. word.now) words.now)) }
+{
+    let mut echoed = Vec::new(heap);
+    for word in words {
+        echoed.extend(word.iter().map(|b| echo(*b)))?;
+        echoed.push(b' ')?;
+    }
+    Ok(echoed)
 }
 
 pub fn hex_digit(c: u8) -> Option<u8>

@@ -9,7 +9,7 @@ mod unanswered;
 mod words;
 
 pub use answers::{done, filled, table_text};
-pub use bytes::{Hex, echo, fields_text, hex_bytes};
+pub use bytes::{Hex, echo_words, fields_text, hex_bytes};
 pub use numbers::{short_number, short_numbers, size};
 pub use typed::Typed;
 pub use unanswered::{Refusal, Unanswered};

@@ -1,5 +1,5 @@
 //! Decimal numbers as they are typed.
-ghost use Rattle.std.specs.Prelude.{◌≡◌, ◌≤◌, IfSome};
+ghost use Rattle.std.specs.Prelude.{◌≡◌, ◌≤◌, IfSome, IfOk, Some, map};
 ghost use Rattle.text.specs.Text.{number_within};
 
 use crate::unanswered::Unanswered;
@@ -47,9 +47,12 @@ pub fn size(word: &[u8]) -> Option<usize>
 }
 
 /// A list of 32-bit numbers.
-pub fn short_numbers(heap: Global, words: &[&[u8]]) -> Result<Vec<u32>, Unanswered> {
-    words
-        .iter()
-        .map(|word| short_number(word).ok_or(Unanswered::NotUnderstood))
-        .try_collect(heap)
+pub fn short_numbers(heap: Global, words: &[&[u8]]) -> Result<Vec<u32>, Unanswered>
+    ensures { IfOk result (λ v. map Some v.items ≡ map (λ word. number_within 4294967295 word.now) words.now) }
+{
+    let mut numbers = Vec::new(heap);
+    for word in words {
+        numbers.push(short_number(word).ok_or(Unanswered::NotUnderstood)?)?;
+    }
+    Ok(numbers)
 }

@@ -1,12 +1,15 @@
 //! Lines and words of the input.
-ghost use Rattle.std.specs.Prelude.{◌<◌, ◌≤◌, IfOk, OnSome};
+ghost use Rattle.std.specs.Prelude.{◌≡◌, ◌<◌, ◌≤◌, [], ◌∷◌, map, length, IfOk, IfSome, IfNone, OnSome, MatchOption};
 ghost use Rattle.text.specs.Reading.{left};
+ghost use Rattle.text.specs.Text.{words_of, newline_at, first_line, other_lines, is_command, commands};
 
 use crate::bytes::is_blank;
 use std::alloc::{AllocError, Global};
 
 /// The words of a line: what stands between blanks.
-fn words<'a>(heap: Global, line: &'a [u8]) -> Result<Vec<&'a [u8]>, AllocError> {
+fn words<'a>(heap: Global, line: &'a [u8]) -> Result<Vec<&'a [u8]>, AllocError>
+    ensures { IfOk result (λ words. map (λ word. word.now) words.items ≡ words_of line.now) }
+{
     line.split(|b| is_blank(*b))
         .filter(|word| !word.is_empty())
         .collect(heap)
@@ -20,7 +23,9 @@ pub struct Lines<'a> {
 }
 
 impl<'a> Lines<'a> {
-    pub fn new(heap: Global, input: &'a [u8]) -> Lines<'a> {
+    pub fn new(heap: Global, input: &'a [u8]) -> Lines<'a>
+        ensures { result.rest.now ≡ input.now }
+    {
         Lines { heap, rest: input }
     }
 
@@ -28,30 +33,47 @@ impl<'a> Lines<'a> {
     fn next_line(&mut self) -> Option<&'a [u8]>
         ensures onward { left self.new ≤ left self.old }
         ensures read { OnSome result (left self.new < left self.old) }
+        ensures line { IfSome result (λ l. l.now ≡ first_line self.old.rest.now) }
+        ensures rest { self.new.rest.now ≡ other_lines self.old.rest.now }
+        ensures end { IfNone result (self.old.rest.now ≡ []) }
     {
         if self.rest.is_empty() {
             return None;
         }
         let text = self.rest;
-        let (line, rest) = match text.iter().position(|b| *b == b'\n') {
-            Some(end) => (&text[..end], &text[end + 1..]),
-            None => (text, &text[text.len()..]),
+        let Some(end) = newline(text) else {
+            self.rest = &text[text.len()..];
+            return Some(text);
         };
-        self.rest = rest;
-        Some(line)
+        self.rest = &text[end + 1..];
+        Some(&text[..end])
     }
 
     /// The words of the next line that has any and is no comment.
     pub fn next_command(&mut self) -> Result<Option<Vec<&'a [u8]>>, AllocError>
         ensures onward { left self.new ≤ left self.old }
         ensures read { IfOk result (λ o. OnSome o (left self.new < left self.old)) }
+        ensures command { IfOk result (λ o. MatchOption o (commands self.old.rest.now ≡ []) (λ words. commands self.old.rest.now ≡ map (λ word. word.now) words.items ∷ commands self.new.rest.now)) }
     {
         while let Some(line) = self.next_line() {
             let words = words(self.heap, line)?;
-            if !matches!(words.as_slice(), [] | [[b'#', ..], ..]) {
+            if is_command(&words) {
                 return Ok(Some(words));
             }
         }
         Ok(None)
     }
+}
+
+fn is_command(words: &[&[u8]]) -> bool
+    ensures { result ≡ is_command (map (λ word. word.now) words.now) }
+{
+    !matches!(words, [] | [[b'#', ..], ..])
+}
+
+fn newline(text: &[u8]) -> Option<usize>
+    ensures value { result ≡ newline_at text.now }
+    ensures within { IfSome result (λ i. i < length text.now) }
+{
+    text.iter().position(|b| *b == b'\n')
 }

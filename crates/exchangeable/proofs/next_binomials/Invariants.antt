@@ -1,7 +1,7 @@
 use Rattle.std.proofs.Common.{◌≡◌, ℕ, ◌+◌, ◌<◌, ◌≤◌, ◌∷◌, get_or}
 use Rattle.exchangeable.proofs.next_binomials.Given as goal
 
--- the places so far have taken on the one before, and the rest is as it was
+-- The places so far have taken on the one before, and the rest is as it was.
 abbrev pub invariant-loop-entry : goal.invariant-loop-entry
 invariant-loop-entry l =
     (l.before ≡ get_or (1 ∷ l.initial.inner) l.entry-index 0)

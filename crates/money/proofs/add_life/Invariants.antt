@@ -2,7 +2,7 @@ use Rattle.std.proofs.Common.{◌≡◌, ◌<◌, ◌≤◌, ◌++◌, take, dro
 use Rattle.money.specs.Money.{pass, whole}
 use Rattle.money.proofs.add_life.Given as goal
 
--- the rest is as it was, and what is done, followed by the pass over the rest, is the whole pass
+-- The rest is as it was, and what is done, followed by the pass over the rest, is the whole pass.
 abbrev pub invariant-loop-cell : goal.invariant-loop-cell
 invariant-loop-cell l =
     (l.below ≤ whole) × (l.carry < whole)

@@ -1,7 +1,8 @@
-use Rattle.std.proofs.Common.{set, refl, arith, length-set}
+use Rattle.std.proofs.Common.{◌∷◌, set, sym, refl, ap, ◌∙◌, arith, length-set}
+use Rattle.std.proofs.lemmas.List.{drop-set, drop-set-lt}
 use Rattle.std.proofs.lemmas.Result.{err_from_is_err_and}
 use Rattle.money.specs.Money.{whole}
-use Rattle.money.proofs.Rows.{starts, part_small, row_more, row_all}
+use Rattle.money.proofs.Rows.{part_small, row_more, row_all}
 use Rattle.money.proofs.money_row.Goals as goal
 
 pub returns-in_err-admit : goal.returns-in_err-admit
@@ -10,7 +11,9 @@ returns-in_err-admit c =
     rw (p.1, p.2) (c.in_err-admit.ensures 0 _, refl)
 
 pub loop-i-init : goal.loop-i-init
-loop-i-init c = starts c.args.row.now whole (omega arith)
+loop-i-init c =
+    let row = c.args.row.now in
+    drop-set row 0 whole (omega arith) ∙ ap (λ zs. whole ∷ zs) (sym (drop-set-lt 1 row 0 whole (omega arith)))
 
 pub add_life-requires : goal.add_life-requires
 add_life-requires c =

@@ -2,7 +2,8 @@ use Rattle.std.proofs.Common.{◌≡◌, ◌^◌, ◌<◌, length, ap, ◌∙◌
 use Rattle.std.specs.Int.Digits.{number_from_digits}
 use Rattle.reply.specs.Rules.{fields_of}
 use Rattle.reply.proofs.Bytes.{bytes_of, number_bytes}
-use Rattle.reply.proofs.Records.{replied_narrow, holds_placed, whole}
+use Rattle.reply.proofs.Places.{placed}
+use Rattle.reply.proofs.Records.{replied_narrow, holds_placed}
 use Rattle.reply.proofs.pack.Goals as goal
 
 pub placed-requires-clause-kind : goal.placed-requires-clause-kind
@@ -21,4 +22,4 @@ returns-clause-holds g c =
     let small : c.placed.result < 2 ^ 128 = omega arith in
     holds_placed c.to_be_bytes.result (fields_of p.KIND p.bits reply) narrow
     (ap length bytes)
-    (ap (number_from_digits 256) bytes ∙ number_bytes c.placed.result small ∙ c.placed.ensures ∙ ap whole c.fields.ensures)
+    (ap (number_from_digits 256) bytes ∙ number_bytes c.placed.result small ∙ c.placed.ensures ∙ ap placed c.fields.ensures)

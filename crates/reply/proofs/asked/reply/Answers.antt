@@ -3,7 +3,6 @@ use Rattle.std.specs.Int.Digits.{AllBelowBase}
 use Rattle.reply.specs.Asked.{fields_for}
 use Rattle.reply.specs.Layout.{Holds}
 use Rattle.reply.specs.Rules.{replied}
-use Rattle.reply.proofs.Records.{held_at}
 use Rattle.reply.proofs.asked.reply.Goals as goal
 
 pub returns-clause-output : goal.returns-clause-output
@@ -17,7 +16,7 @@ returns-clause-output g c =
       answer = λ size l held.
           let f = fields_for g.F.Ring.ops g.F.Ring.plain p.KIND p.bits l c.args.question c.args.k in
           let same = ap (λ n. replied p.KIND p.bits n c.in_ok-reply.reply) (c.lives.ensures.counted size l held) ∙ said.1 size l held in
-          subst (λ xs. Holds xs f) (sym written) (held_at c.pack.result same c.pack.ensures.holds);
+          subst (λ xs. Holds xs f) (sym written) (subst (Holds c.pack.result) same c.pack.ensures.holds);
       octets = subst (AllBelowBase 256) (sym written) c.pack.ensures.octets;
       rest = drop_at front _ 16 long;
     }

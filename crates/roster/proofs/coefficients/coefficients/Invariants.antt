@@ -1,12 +1,12 @@
 use Rattle.std.proofs.Common.{◌≡◌, ℕ, ◌+◌, ◌≤◌, ◌<◌, length, get_or}
 use Rattle.algebra.proofs.Binomial.{ways}
-use Rattle.roster.proofs.QuestionsWays.{ways_before}
+use Rattle.algebra.proofs.Rows.{below}
 use Rattle.roster.proofs.coefficients.coefficients.Given as goal
 
 -- The entries so far have gone through this pass, and the sum is the last of them.
 abbrev pub invariant-loop-entry : goal.invariant-loop-entry
 invariant-loop-entry l =
-    (l.sum ≡ ways_before (l._pass + 1) l.entry-index)
+    (l.sum ≡ below 0 (ways (l._pass + 1)) l.entry-index)
     × ((t : ℕ) → t < l.entry-index → get_or l.entry-items t 0 ≡ ways (l._pass + 1) t)
     × ((t : ℕ) → l.entry-index ≤ t → t ≤ l.last → get_or l.entry-items t 0 ≡ ways l._pass t)
 

@@ -1,13 +1,21 @@
-use Rattle.std.proofs.Common.{◌∙◌, arith}
-use Rattle.roster.proofs.QuestionsMultiple.{rounds_odd, rounds_even}
+use Rattle.std.proofs.Common.{◌≡◌, ◌%◌, sym, ap, ◌∙◌, arith}
+use Rattle.algebra.specs.Sums.{multiple}
+use Rattle.roster.proofs.QuestionsMultiple.{round}
 use Rattle.roster.proofs.multiples.multiple.Goals as goal
 use Rattle.roster.proofs.multiples.multiple.Goals.{then-left-eq1, else-left-eq1}
 
 pub loop-left-preserved : goal.loop-left-preserved
 loop-left-preserved g c =
+    let o = g.F.Ring.ops in
     let L = g.met.F.Ring.laws in
     let l = c.loop-left in
+    let added : c.if-left-eq1.sum ≡ o.plus l.sum (multiple o (l.left % 2) l.doubled) =
     elim c.if-left-eq1.branch [
-      | then-left-eq1 w ↦ rounds_odd L l.left l.sum l.doubled c.if-left-eq1.sum c.add-doubled.result (omega arith) (w.sum-is ∙ w.add-sum.ensures) c.add-doubled.ensures ∙ l.invariant
-      | else-left-eq1 w ↦ rounds_even L l.left l.sum l.doubled c.if-left-eq1.sum c.add-doubled.result (omega arith) w.sum-is c.add-doubled.ensures ∙ l.invariant
-    ]
+      | then-left-eq1 w ↦
+          let odd : l.left % 2 ≡ 1 = omega arith in
+          w.sum-is ∙ w.add-sum.ensures ∙ ap (o.plus l.sum) (sym (ap (λ r. multiple o r l.doubled) odd ∙ L.plus_zero l.doubled))
+      | else-left-eq1 w ↦
+          let even : l.left % 2 ≡ 0 = omega arith in
+          w.sum-is ∙ sym (ap (λ r. o.plus l.sum (multiple o r l.doubled)) even ∙ L.plus_zero l.sum)
+    ] in
+    round L l.left l.sum l.doubled c.if-left-eq1.sum c.add-doubled.result added c.add-doubled.ensures ∙ l.invariant

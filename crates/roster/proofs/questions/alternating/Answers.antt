@@ -1,6 +1,7 @@
 use Rattle.std.proofs.Common.{◌+◌, get_or, ap, ◌∙◌, arith}
+use Rattle.std.proofs.lemmas.List.Edits.{length-between, get_or-between}
 use Rattle.roster.specs.Ledger.{figures}
-use Rattle.roster.proofs.QuestionsRead.{read_figure, read_sum, length_part, get_or_part}
+use Rattle.roster.proofs.QuestionsRead.{read_figure, read_sum}
 use Rattle.roster.proofs.QuestionsSums.{alternating_more}
 use Rattle.roster.proofs.questions.alternating.Goals as goal
 
@@ -11,8 +12,9 @@ loop-t-preserved g c size led held =
     let t = c.loop-t.t in
     let k = c.args.k in
     let x = c.cell-item.result in
-    let long = length_part c.args.cells.now k c.args.m c.requires.1.1 in
-    let read = c.cell-item.is ∙ get_or_part c.args.cells.now k c.args.m c.requires.1.1 t x (omega arith) in
+    let last = k + c.args.m + 1 in
+    let long = length-between c.args.cells.now k last (omega (arith, c.requires.1.1)) in
+    let read = c.cell-item.is ∙ get_or-between c.args.cells.now k last t x (omega (arith, long)) in
     alternating_more g.met.F.Ring.laws led.whole (figures led.lives) c.args.j k t (get_or c.coefficients-ways.result t 0)
     c.loop-t.sum c.from_plain-whole.result c.from_plain-kept.result c.multiple.result c.signed.result c.mul.result c.add-sum.result
     (c.loop-t.invariant size led held)

@@ -1,5 +1,5 @@
 use Rattle.std.proofs.Common.{◌≡◌, ◌+◌, ◌-◌, ◌<◌, length, sym, ◌∙◌, arith, rules}
-use lib.ListN.{length-map}
+use Rattle.std.proofs.lemmas.List.{length-map}
 use Rattle.algebra.proofs.Waring.{entry_past}
 use Rattle.roster.specs.Ledger.{figures}
 use Rattle.roster.proofs.Laying.{length_held}

@@ -1,10 +1,9 @@
 use Rattle.std.proofs.Common.{rules, ◌≡◌, [], ◌∷◌, ◌++◌, map, length, vec_items, sym, ap, ◌∙◌, subst, append_assoc, append-nil, arith, length-append}
-use mathlib.Core.List.{map-append}
 use Rattle.std.specs.Vec.Iter.{into_iter_items}
 use Rattle.roster.specs.Cells.{Holds}
 use Rattle.roster.specs.Ledger.{opened, answers, final}
 use Rattle.roster.specs.Requests.{call_of, answer_of}
-use Rattle.std.proofs.lemmas.List.{nil_from_length}
+use Rattle.std.proofs.lemmas.List.{nil_from_length, map-append}
 use Rattle.roster.proofs.Runs.{ran_more}
 use Rattle.roster.proofs.replays.replay.Goals as goal
 

@@ -5,7 +5,7 @@ use Rattle.roster.specs.Ledger.{Ledger, answers, final}
 use Rattle.roster.specs.Requests.{call_of, answer_of}
 use Rattle.roster.proofs.replays.replay.Given as goal
 
--- so far: the outcomes are the ledger's answers, the cells hold its state, and there is room for the outcomes to come
+-- So far: the outcomes are the ledger's answers, the cells hold its state, and there is room for the outcomes to come.
 abbrev pub invariant-loop-request : goal.invariant-loop-request
 invariant-loop-request g l =
     let o = g.F.Ring.ops in

@@ -1,6 +1,6 @@
 use Rattle.std.proofs.Common.{◌≡◌, ◌+◌, ◌-◌, ◌*◌, ◌<◌, true, false, length, get_or, drop, sym, ◌∙◌, arith, rules}
 use Rattle.text.specs.Text.{digit}
-use Rattle.text.proofs.Decimal.{goes_on, no_digit, too_large, ends}
+use Rattle.text.proofs.Decimal.{one_more, too_large, ends}
 use Rattle.text.proofs.numbers.number.Goals as goal
 
 pub returns-then-not-is_ascii_digit : goal.returns-then-not-is_ascii_digit
@@ -8,7 +8,7 @@ returns-then-not-is_ascii_digit c =
     let d : digit (get_or c.args.word.now c.loop-b.b-index 0) ≡ false = search rules in
     let h : c.loop-b.b-index < length c.args.word.now = omega arith in
     record {
-      value = sym (no_digit c.args.limit c.loop-b.n c.loop-b.b-index c.args.word.now h d) ∙ c.loop-b.invariant.0;
+      value = sym (one_more c.args.limit c.loop-b.n c.loop-b.b-index c.args.word.now false h d) ∙ c.loop-b.invariant.0;
       bound = search rules;
     }
 
@@ -20,7 +20,7 @@ returns-then-next-limit c =
     record {
       value =
           sym (too_large c.args.limit (c.loop-b.n * 10 + (get_or c.args.word.now c.loop-b.b-index 0 - 48)) (drop (c.loop-b.b-index + 1) c.args.word.now) past)
-          ∙ goes_on c.args.limit c.loop-b.n c.loop-b.b-index c.args.word.now h d ∙ c.loop-b.invariant.0;
+          ∙ sym (one_more c.args.limit c.loop-b.n c.loop-b.b-index c.args.word.now true h d) ∙ c.loop-b.invariant.0;
       bound = search rules;
     }
 
@@ -28,7 +28,7 @@ pub loop-b-preserved : goal.loop-b-preserved
 loop-b-preserved c =
     let d : digit (get_or c.args.word.now c.loop-b.b-index 0) ≡ true = search rules in
     let h : c.loop-b.b-index < length c.args.word.now = omega arith in
-    (goes_on c.args.limit c.loop-b.n c.loop-b.b-index c.args.word.now h d ∙ c.loop-b.invariant.0, omega arith)
+    (sym (one_more c.args.limit c.loop-b.n c.loop-b.b-index c.args.word.now true h d) ∙ c.loop-b.invariant.0, omega arith)
 
 pub returns : goal.returns
 returns c = record {

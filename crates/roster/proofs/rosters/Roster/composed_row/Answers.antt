@@ -5,7 +5,7 @@ use Rattle.algebra.specs.Ring.{semi}
 use Rattle.algebra.specs.Rows.{row}
 use Rattle.algebra.specs.Sums.{against}
 use Rattle.algebra.proofs.Semiring.{laws_semi}
-use Rattle.roster.specs.Ledger.{Composed, figures, answer, is_refused}
+use Rattle.roster.specs.Ledger.{figures}
 use Rattle.roster.proofs.Laying.{length_held}
 use Rattle.roster.proofs.QuestionsRead.{read_figure, asked, row_asked}
 use Rattle.roster.proofs.RowsComposed.{row_first, row_nobody, against_more, length_against, composed_split, composed_join, composed_all, compose_joins}
@@ -69,7 +69,7 @@ returns g c size led held =
     let kept : drop (n + 1) (set table 0 w) ≡ drop (n + 1) table = drop-set-lt (n + 1) table 0 w (omega arith) in
     let whole = composed_all o plain led.whole (figures led.lives) (set table 0 w) c.loop-i.table c.loop-i.i n (omega arith) len (c.loop-i.invariant size led held) in (
       row_asked o plain led table c.loop-i.table n lives c.if-table-n.false (whole ∙ ap (λ t. map plain (row (semi o) (n + 1) (against o led.whole (figures led.lives))) ++ t) kept),
-      asked held (is_refused o plain (answer o plain led (Composed table))),
+      asked held _,
     )
 
 pub returns-in_default : goal.returns-in_default
@@ -81,5 +81,5 @@ returns-in_default g c size led held =
     let nobody : length led.lives ≡ 0 = omega (arith, length_held held) in
     let len : length (figures led.lives) ≡ 0 = rw length-map nobody in (
       row_asked o plain led table _ 0 (sym nobody) (omega arith) (row_nobody g.met.F.Ring.laws plain led.whole (figures led.lives) table c.one.result c.to_plain.result len (omega arith) c.one.ensures c.to_plain.ensures),
-      asked held (is_refused o plain (answer o plain led (Composed table))),
+      asked held _,
     )

@@ -1,10 +1,7 @@
-use Rattle.roster.specs.Ledger.{Exactly, answer, is_refused}
 use Rattle.roster.proofs.QuestionsRead.{asked, exactly_asked}
 use Rattle.roster.proofs.rosters.Roster.exactly.Goals as goal
 
 pub returns : goal.returns
 returns g c size l held =
-    let o = g.F.Ring.ops in
-    let plain = g.F.Ring.plain in
     let looked = c.in_ok-k.ensures in
-    (exactly_asked plain g.met.F.Ring.laws l c.in_ok-k.k c.args.k c.tail.result looked.0 looked.1 (c.tail.ensures size l held), asked held (is_refused o plain (answer o plain l (Exactly c.args.k))))
+    (exactly_asked g.F.Ring.plain g.met.F.Ring.laws l c.in_ok-k.k c.args.k c.tail.result looked.0 looked.1 (c.tail.ensures size l held), asked held _)

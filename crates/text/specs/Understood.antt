@@ -1,0 +1,11 @@
+-- Whether a line was understood, as the program's status tells. Assumes nothing.
+use Rattle.std.specs.Prelude.{Bool, true, false, Result, Ok, Err}
+use Rattle.text.specs.declared.unanswered.Unanswered.{Unanswered}
+use Rattle.text.specs.declared.unanswered.Unanswered.TheVariants.{NotUnderstood, Refused, NoMemory}
+
+-- A refusal is an answer.
+abbrev pub is_understood : {T : Type 0} → Result T Unanswered → Bool
+is_understood (Ok text) = true
+is_understood (Err NotUnderstood) = false
+is_understood (Err (Refused refusal)) = true
+is_understood (Err NoMemory) = true
