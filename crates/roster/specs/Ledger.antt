@@ -58,7 +58,7 @@ abbrev pub further : Option ℕ → Option ℕ
 further None = None
 further (Some k) = Some (k + 1)
 
--- The place of the first life with this number, counted from 1. No life has number 0.
+-- The place of the first life with this number, counted from 1.
 abbrev pub place_of : {F : Type 0} → ℕ → List (Member F) → Option ℕ
 place_of n [] = None
 place_of n (m ∷ ms) = cond (m.number == n) (Some 1) (further (place_of n ms))
