@@ -1,4 +1,4 @@
--- Binomial coefficients: how large they are, and in the form that the summands of an alternating sum need. Assumes nothing.
+-- Binomial coefficients: how large they are, and in the form that the summands of an alternating sum need.
 use Rattle.std.proofs.Common.{◌≡◌, ℕ, zero, suc, ◌+◌, ◌^◌, ◌<◌, ◌≤◌, sym, refl, ◌∙◌, subst, le_trans, le_of_suc-le-suc, not-suc-le-zero, add-suc, suc-add, pow-suc, pow_mono, pow_pos, zero-add, arith, lit≤}
 use Rattle.algebra.specs.Binomial.{choose}
 

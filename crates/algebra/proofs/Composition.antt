@@ -1,4 +1,4 @@
--- The row of exactly k alive, when one life more joins at the end. Assumes nothing.
+-- The row of exactly k alive, when one life more joins at the end.
 use Rattle.std.proofs.Common.{◌≡◌, ℕ, zero, suc, ◌+◌, List, [], ◌∷◌, ◌++◌, map, sym, refl, ap, ◌∙◌, subst, ap₂, append-nil, add-one}
 use Rattle.std.specs.List.{range_with_len}
 use Rattle.algebra.specs.Ring.{Semi}

@@ -1,4 +1,4 @@
--- Multiples and the elementary symmetric sums, over any commutative ring. Assumes nothing.
+-- Multiples and the elementary symmetric sums, over any commutative ring.
 use Rattle.std.proofs.Common.{◌≡◌, ℕ, zero, suc, ◌+◌, ◌*◌, ◌/◌, ◌%◌, ◌<◌, List, [], ◌∷◌, ◌++◌, map, length, sym, refl, ap, ◌∙◌, ap₂, suc-add, zero-add, arith}
 use Rattle.std.proofs.lemmas.List.{map-append, length-map}
 use Rattle.algebra.specs.Ring.{Ops, Laws, semi}

@@ -1,5 +1,5 @@
 -- Checked examples: what the solver proves, and that sums over patterns compute. Nothing cites them: each shows by itself
--- that it is proved. Assumes nothing.
+-- that it is proved.
 use Rattle.std.proofs.Common.{◌≡◌, ℕ, List, [], ◌∷◌, refl}
 use Rattle.algebra.specs.Ring.{Ops, Laws, Semi}
 use Rattle.algebra.specs.Patterns.{Life, exactly, at_least, naturals}

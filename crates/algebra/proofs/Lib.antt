@@ -6,4 +6,5 @@ pub mod Binomial
 pub mod Waring
 pub mod Rows
 pub mod Composition
+pub mod Each
 mod Examples

@@ -1,4 +1,4 @@
--- Rows made from a function of the place. Assumes nothing.
+-- Rows made from a function of the place.
 use Rattle.std.proofs.Common.{◌≡◌, ℕ, zero, suc, ◌+◌, ◌<◌, ◌≤◌, ◌≢◌, ◌⊎◌, List, ◌∷◌, map, length, get_or, set, replicate, refl, ap, ◌∙◌, ap₂, inl, inr, zero-add, arith, length-set}
 use Rattle.std.specs.List.{range_with_len}
 use Rattle.std.proofs.lemmas.List.FromFn.{length-map-range_with_len, get_or-map-range_with_len, fill_by_all}

@@ -1,4 +1,4 @@
--- The laws of a commutative semiring, which every ring and the ordinary whole numbers keep. Assumes nothing.
+-- The laws of a commutative semiring, which every ring and the ordinary whole numbers keep.
 use Rattle.std.proofs.Common.{◌≡◌, sym, ap, ◌∙◌, add-zero, add_assoc, mul_assoc, mul_comm, add_comm, mul-zero, mul-one, mul-add}
 use Rattle.algebra.specs.Ring.{Ops, Laws, Semi, semi}
 use Rattle.algebra.specs.Patterns.{naturals}

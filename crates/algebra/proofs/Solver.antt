@@ -1,6 +1,6 @@
 -- Equations that hold in every commutative semiring or ring, proved by computing. A proof is one line:
 --     ring L (a ∷ b ∷ c ∷ []) (search made depth 40 fits 100000) tt
--- with the atoms in the list; `semiring` is called the same way. Assumes nothing.
+-- with the atoms in the list; `semiring` is called the same way.
 use Rattle.std.proofs.Common.{◌≡◌, ℕ, zero, suc, Bool, true, false, cond, T, eqb, leb, List, [], ◌∷◌, ◌++◌, get_or, sym, refl, ap, ◌∙◌, subst, ap₂, subst₂, eqb→eq}
 use Rattle.algebra.specs.Ring.{Ops, Laws, Semi, semi}
 use Rattle.algebra.proofs.Semiring.{SemiLaws, zero_plus, laws_semi, plus_undo, plus_cancel}

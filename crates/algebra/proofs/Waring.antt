@@ -1,5 +1,5 @@
 -- Waring's formulas, over any commutative ring. All of it rests on one table of numbers, `entry`: the number at place k after
--- j passes of differences. Assumes nothing.
+-- j passes of differences.
 use Rattle.std.proofs.Common.{◌≡◌, ℕ, zero, suc, ◌+◌, ◌-◌, ◌<◌, ◌≤◌, List, [], ◌∷◌, length, sym, refl, ap, ◌∙◌, subst, ap₂, le_of_suc-le-suc, not-suc-le-zero, suc-add, zero-add, add-one, arith}
 use mathlib.Core.Path.{fun_ext}
 use Rattle.algebra.specs.Ring.{Ops, Laws, semi}

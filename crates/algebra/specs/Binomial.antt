@@ -1,4 +1,4 @@
--- Binomial coefficients. Assumes nothing.
+-- Binomial coefficients.
 use Rattle.std.specs.Prelude.{ℕ, zero, suc, ◌+◌}
 
 -- C(n, k), by Pascal's rule.

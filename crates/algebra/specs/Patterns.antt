@@ -1,4 +1,4 @@
--- Survival patterns, their weights, and sums over them. Assumes nothing.
+-- Survival patterns, their weights, and sums over them.
 use Rattle.std.specs.Prelude.{ℕ, zero, suc, ◌+◌, ◌*◌, Bool, true, false, cond, List, [], ◌∷◌, ◌++◌, map, length, nat_eq, nat_le}
 use Rattle.algebra.specs.Ring.{Semi}
 

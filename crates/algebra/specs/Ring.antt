@@ -1,4 +1,4 @@
--- What a kind of figures is: a commutative ring. Assumes nothing.
+-- What a kind of figures is: a commutative ring.
 use Rattle.std.specs.Prelude.{◌≡◌}
 
 -- The five operations, each a fixed function that never refuses.

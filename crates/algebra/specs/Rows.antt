@@ -1,4 +1,4 @@
--- The row of exactly 0, exactly 1, … alive. Assumes nothing.
+-- The row of exactly 0, exactly 1, … alive.
 use Rattle.std.specs.Prelude.{ℕ, List, map}
 use Rattle.std.specs.List.{range_with_len}
 use Rattle.algebra.specs.Ring.{Semi}

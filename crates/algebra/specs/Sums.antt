@@ -1,4 +1,4 @@
--- Powers, multiples, and the sums over choices of figures, in any ring. Assumes nothing.
+-- Powers, multiples, and the sums over choices of figures, in any ring.
 use Rattle.std.specs.Prelude.{ℕ, zero, suc, List, map}
 use Rattle.algebra.specs.Ring.{Ops, semi}
 use Rattle.algebra.specs.Patterns.{Life, exactly}

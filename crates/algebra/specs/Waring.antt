@@ -1,4 +1,4 @@
--- Waring's formulas: exactly and at least k alive as alternating sums of the elementary symmetric sums. Assumes nothing.
+-- Waring's formulas: exactly and at least k alive as alternating sums of the elementary symmetric sums.
 use Rattle.std.specs.Prelude.{◌≡◌, ℕ, zero, suc, ◌+◌, ◌-◌, List, length}
 use Rattle.algebra.specs.Ring.{Ops, semi}
 use Rattle.algebra.specs.Patterns.{exactly, at_least}

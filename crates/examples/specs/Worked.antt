@@ -1,5 +1,4 @@
 -- Worked examples, computed from the definitions that the calls' contracts cite, beside the numbers that are expected.
--- Assumes nothing.
 use Rattle.std.specs.Prelude.{ℕ, suc, ◌-◌, ◌^◌, List, [], ◌∷◌, ◌++◌, map, length, ℤ, pos, negsuc}
 use Rattle.std.specs.List.{range_with_len}
 use Rattle.algebra.specs.Ring.{Ops}

@@ -1,4 +1,4 @@
--- What the passes over a column, and over a row of binomials, leave. Assumes nothing.
+-- What the passes over a column, and over a row of binomials, leave.
 use Rattle.std.proofs.Common.{◌≡◌, ℕ, zero, suc, ◌+◌, ◌-◌, ◌^◌, ◌<◌, ◌≤◌, ◌⊎◌, List, [], ◌∷◌, length, ◌++◌, get_or, take, drop, ℤ, ◌-ℤ◌, nat_abs, refl, sym, ◌∙◌, ap, ap₂, inl, inr, arith, w64, SFits, to_z, of_z}
 use Rattle.std.proofs.lemmas.List.{get_or_past, get_or_append_left, get_or-take}
 use Rattle.std.proofs.lemmas.Int.{ints, to_z-of_z}

@@ -1,4 +1,4 @@
--- The difference table, and what its columns say of events. Assumes nothing.
+-- The difference table, and what its columns say of events.
 use Rattle.std.proofs.Common.{◌≡◌, ℕ, zero, suc, ◌+◌, ◌-◌, ◌*◌, ◌^◌, ◌<◌, ◌≤◌, List, get_or, ℤ, pos, ◌+ℤ◌, ◌-ℤ◌, neg_ℤ, nat_abs, ◌≤ℤ◌, sym, ap, ◌∙◌, ap₂, pow-suc, pow_mono, arith}
 use lib.IntN.{+ℤ-neg_ℤ_cancel, -ℤ-+ℤ_cancel, *ℤ-one, *ℤ_comm}
 use lib.Signed.{≤ℤ_refl}

@@ -1,4 +1,4 @@
--- What the calls of `exchangeable_row` give, put together. Assumes nothing.
+-- What the calls of `exchangeable_row` give, put together.
 use Rattle.std.proofs.Common.{◌≡◌, ℕ, suc, ◌+◌, ◌-◌, ◌^◌, ◌<◌, ◌≤◌, List, map, ◌++◌, length, get_or, take, drop, ℤ, pos, ◌*ℤ◌, nat_abs, ◌≤ℤ◌, ◌<ℤ◌, ap, ap₂, ◌∙◌, arith}
 use Rattle.std.proofs.lemmas.List.FromFn.{fill_by_all}
 use Rattle.std.proofs.lemmas.List.{drop_at, get_or-map, get_or-take, length-take-le, take_at, length-map}

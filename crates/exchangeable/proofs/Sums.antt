@@ -1,4 +1,4 @@
--- Sums with binomial coefficients, by Pascal's rule. Assumes nothing.
+-- Sums with binomial coefficients, by Pascal's rule.
 use Rattle.std.proofs.Common.{◌≡◌, ℕ, zero, suc, ◌+◌, ◌*◌, ℤ, pos, negsuc, ◌+ℤ◌, ◌*ℤ◌, neg_ℤ, sym, refl, ap, ◌∙◌, add-mul, mul-zero, arith}
 use mathlib.Core.Path.{fun_ext}
 use lib.IntN.{+ℤ_idr, neg_ℤ-neg_ℤ, neg_ℤ-+ℤ, zero-*ℤ}

@@ -1,4 +1,4 @@
--- What a call is answered, and what it leaves in the output. Assumes nothing.
+-- What a call is answered, and what it leaves in the output.
 use Rattle.std.specs.Prelude.{◌≡◌, ℕ, ◌+◌, ◌^◌, ◌<◌, ◌≤◌, List, map, length, take, drop, pos, ◌≤ℤ◌, ◌<ℤ◌, slice_index, Option, Some, None}
 use Rattle.exchangeable.specs.Events.{top, value, row, HasEvents}
 use Rattle.exchangeable.specs.declared.Refusal.{Refusal}

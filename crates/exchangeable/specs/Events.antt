@@ -1,4 +1,4 @@
--- Exchangeable events and their tables. Assumes nothing.
+-- Exchangeable events and their tables.
 -- A table u holds u_0 to u_n: u_j over u_0 is the chance that j chosen events out of n all occur.
 use Rattle.std.specs.Prelude.{◌≡◌, ℕ, suc, ◌+◌, ◌-◌, ◌*◌, ◌≤◌, List, map, length, ℤ, pos, ◌+ℤ◌, ◌*ℤ◌, neg_ℤ, slice_index}
 use Rattle.std.specs.List.{range_with_len}

@@ -1,4 +1,4 @@
--- And distributes over exclusive or: bit by bit. Assumes nothing.
+-- A proof, nothing to believe: exclusive or under `and`, bit by bit.
 use Rattle.std.specs.Prelude.{◌≡◌, ℕ, zero, suc, ◌+◌, ◌*◌, ◌/◌, ◌%◌, ◌<◌, bit_and, bit_xor, refl}
 use Rattle.std.proofs.Common.{sym, ap, ap₂, ◌∙◌, div-add-mod', mod-lt, not-suc-le-zero, le_of_suc-le-suc, lit<}
 use Rattle.std.proofs.Math.Arith.{bin_ind}

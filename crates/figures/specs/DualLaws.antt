@@ -1,4 +1,4 @@
--- Dual numbers over a ring keep the laws. Assumes nothing.
+-- A proof, nothing to believe: dual numbers over a ring keep the laws.
 use Rattle.std.specs.Prelude.{◌≡◌, [], ◌∷◌}
 use Rattle.std.proofs.Common.{ap₂}
 use Rattle.algebra.specs.Ring.{Ops, Laws}

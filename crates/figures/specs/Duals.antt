@@ -1,4 +1,4 @@
--- Dual numbers over a ring: a value a and its rate of change b, written (a, b). Assumes nothing.
+-- Dual numbers over a ring: a value a and its rate of change b, written (a, b).
 use Rattle.algebra.specs.Ring.{Ops}
 use Rattle.figures.specs.declared.kinds.Dual.{Dual}
 

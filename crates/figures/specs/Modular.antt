@@ -1,4 +1,4 @@
--- The laws of arithmetic modulo m, once for every modulus and every type that holds such numbers. Assumes nothing.
+-- A proof, nothing to believe: the laws of arithmetic modulo m, once for every modulus and every type that holds such numbers.
 use Rattle.std.specs.Prelude.{◌≡◌, ℕ, ◌+◌, ◌-◌, ◌*◌, ◌%◌, ◌<◌}
 use Rattle.std.proofs.Common.{sym, ap, ap₂, ◌∙◌, add_comm, add_assoc, add-zero, mul_comm, mul_assoc, mul-add, mod-eq_of_lt, mul-one, arith}
 use Rattle.std.proofs.lemmas.Nat.{mul-mod_second}

@@ -1,4 +1,4 @@
--- What a reply can hold. Assumes nothing.
+-- What a reply can hold.
 use Rattle.std.specs.Prelude.{◌≡◌, ℕ, ◌^◌, ◌<◌, ◌≤◌}
 
 -- A kind number, a width and a figure that a record has room for: three kinds, at most 64 bits, and kind 2 holds residues.

@@ -1,4 +1,4 @@
--- Residues: numbers modulo 2147483647. Assumes nothing.
+-- Residues: numbers modulo 2147483647.
 use Rattle.std.specs.Prelude.{ℕ, ◌+◌, ◌-◌, ◌*◌, ◌%◌, ◌<◌}
 use Rattle.std.proofs.Common.{mod-lt, lit<}
 use Rattle.algebra.specs.Ring.{Ops}

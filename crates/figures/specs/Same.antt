@@ -1,4 +1,4 @@
--- A figure is told by its number: the bound beside it has one proof at most. Assumes nothing.
+-- A proof, nothing to believe: equal numbers make equal figures, since the bound beside a number has one proof at most.
 use Rattle.std.specs.Prelude.{◌≡◌, ℕ, ◌<◌}
 use mathlib.Core.Path.{PathP}
 use mathlib.Core.HLevel.{is_prop→PathP}

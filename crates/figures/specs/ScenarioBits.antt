@@ -1,4 +1,4 @@
--- Scenarios: 64 bits, one for each scenario. Assumes nothing.
+-- Scenarios: 64 bits, one for each scenario.
 use Rattle.std.specs.Prelude.{ℕ, ◌-◌, ◌%◌, ◌^◌, bit_and, bit_xor}
 use Rattle.std.specs.Int.Bits.{and_lt}
 use Rattle.std.proofs.lemmas.Nat.{xor_lt}

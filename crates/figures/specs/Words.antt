@@ -1,4 +1,4 @@
--- Words: 64-bit numbers modulo 2^64. Assumes nothing.
+-- Words: 64-bit numbers modulo 2^64.
 use Rattle.std.specs.Prelude.{ℕ, ◌+◌, ◌-◌, ◌*◌, ◌%◌, ◌^◌, ◌<◌}
 use Rattle.std.proofs.Common.{mod-lt, lit<}
 use Rattle.algebra.specs.Ring.{Ops}

@@ -1,5 +1,6 @@
-//! The four kinds of figures, as types. A bound on the number is part of a type, so that the laws hold for all its values:
-//! no `impl Model` shows them as their numbers, of which the laws do not hold.
+//! The kinds of figures, as types. The laws are owed for every value of a type. Where figures are numbers below a bound, the
+//! bound is a part of the type: in a contract a number has none. (No `impl Model` shows such a figure as its number: the laws
+//! do not hold of numbers without the bound.) A dual number has no bound of its own.
 ghost use Rattle.std.specs.Prelude.{◌^◌, ◌<◌};
 
 /// A 64-bit number, worked modulo 2^64.

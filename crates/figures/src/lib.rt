@@ -13,7 +13,7 @@ mod theorems;
 mod words;
 
 pub use kinds::{Dual, Residue, Scenarios, Word};
-pub use theorems::kinds_are_as_defined;
+pub use theorems::{kinds_are_as_defined, kinds_pack_as_defined};
 
 /// A kind of figures. Each operation is a fixed function and none refuses; there is no order and no division.
 pub trait Ring: Copy {

@@ -1,4 +1,4 @@
--- A library call's result as the struct that C gets. Assumes nothing.
+-- A library call's result as the struct that C gets.
 use Rattle.std.specs.Prelude.{◌≡◌, ℕ, Ok, Err, Result, MatchResult, unwrap_or}
 use Rattle.hosts.specs.declared.Outcome.{Outcome}
 use Rattle.money.specs.Answer.{number as money_number, place as place_of_money}

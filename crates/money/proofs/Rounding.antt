@@ -1,8 +1,8 @@
--- Why a money row adds up to D, and how far its sums are from the exact ones. Assumes nothing.
+-- Why a money row adds up to D, and how far its sums are from the exact ones.
 use Rattle.std.proofs.Common.{◌≡◌, ℕ, zero, suc, ◌+◌, ◌-◌, ◌*◌, ◌%◌, ◌^◌, ◌<◌, ◌≤◌, List, [], ◌∷◌, ◌++◌, map, length, get_or, drop, fold, sym, refl, ap, ◌∙◌, subst, ap₂, mul-le-mul_right, mul_comm, add-mul, mul-le-mul_left, mul-add, arith, length-append}
 use native.Mathlib.Nat.{pow-succ'}
 use Rattle.std.specs.List.{AllByRecursion}
-use Rattle.std.proofs.ByRecursion.{All-append}
+use Rattle.algebra.proofs.Each.{each_append}
 use Rattle.std.proofs.lemmas.List.{append_assoc, append-nil, map-append, drop_all}
 use Rattle.algebra.specs.Patterns.{Life, naturals, total, at_least}
 use Rattle.algebra.proofs.Patterns.{at_least_suc_nil, at_least_zero_cons, at_least_suc_cons, at_least_suc_at}
@@ -156,7 +156,7 @@ good_more ls row p le all some g = ((with_sum p le row g.0).0, near)
 
     near : (k : ℕ) → Near (length (ls ++ p ∷ [])) (exact (ls ++ p ∷ []) k) (sum (drop k (with_life row p)))
     near zero =
-        near_all_patterns (length (ls ++ p ∷ [])) _ _ (exact_zero (ls ++ p ∷ []) (All-append (λ x. x ≤ whole) ls (p ∷ []) all (le, tt)))
+        near_all_patterns (length (ls ++ p ∷ [])) _ _ (exact_zero (ls ++ p ∷ []) (each_append (λ x. x ≤ whole) ls (p ∷ []) all (le, tt)))
         (with_sum p le row g.0).0
     near (suc k) =
         let t = with_tail p le row g.0 k in
@@ -169,7 +169,7 @@ good_all : (rest ls row : List ℕ) → AllByRecursion (λ p. p ≤ whole) rest 
 good_all [] ls row h all some g = rw (append-nil ls) g
 good_all (p ∷ rest) ls row h all some g =
     subst (λ zs. Good zs (fold with_life (with_life row p) rest)) (append_assoc ls (p ∷ []) rest)
-    (good_all rest (ls ++ p ∷ []) (with_life row p) h.1 (All-append (λ x. x ≤ whole) ls (p ∷ []) all (h.0, tt))
+    (good_all rest (ls ++ p ∷ []) (with_life row p) h.1 (each_append (λ x. x ≤ whole) ls (p ∷ []) all (h.0, tt))
     (omega (arith, length-append ls (p ∷ []))) (good_more ls row p h.0 all some g))
 
 -- The first life loses nothing.

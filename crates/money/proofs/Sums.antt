@@ -1,4 +1,4 @@
--- The algebra's sum of a list is std's. Assumes nothing.
+-- The algebra's sum of a list is std's.
 use Rattle.std.proofs.Common.{◌≡◌, ℕ, ◌≤◌, List, drop, sum, refl, arith}
 use Rattle.std.proofs.lemmas.List.Recursion.{is_sum_by}
 use Rattle.std.proofs.lemmas.List.Sums.{sum_by-take-drop}

@@ -1,4 +1,4 @@
--- What the calls are answered, and what they leave in the table. Assumes nothing.
+-- What the calls are answered, and what they leave in the table.
 use Rattle.std.specs.Prelude.{◌≡◌, ℕ, ◌+◌, ◌<◌, ◌≤◌, List, ◌++◌, length, take, drop, slice_index, Option, Some, None}
 use Rattle.algebra.specs.Patterns.{naturals, total}
 use Rattle.money.specs.Money.{whole, money_row, factor_of, exact, Near}

@@ -1,4 +1,4 @@
--- The money row, the factor, and how close the factor lies to the exact sum. Assumes nothing.
+-- The money row, the factor, and how close the factor lies to the exact sum.
 use Rattle.std.specs.Prelude.{ℕ, ◌+◌, ◌-◌, ◌*◌, ◌/◌, ◌%◌, ◌^◌, ◌≤◌, List, [], ◌∷◌, ◌++◌, map, drop, fold}
 use Rattle.algebra.specs.Patterns.{naturals, total, at_least}
 

@@ -1,13 +1,13 @@
--- Numbers written in bytes, the first the most significant. Assumes nothing.
+-- Numbers written in bytes, the first the most significant.
 use Rattle.std.proofs.Common.{◌≡◌, ℕ, zero, suc, ◌+◌, ◌*◌, ◌/◌, ◌%◌, ◌^◌, ◌<◌, List, [], ◌∷◌, length, get_or, sym, refl, ap, ◌∙◌, ap₂, add-zero, add_assoc, mod-eq_of_lt, mul_assoc, add-mul, zero-add, mul-one, arith, lit<, w8, Fits}
 use native.Mathlib.Nat.{pow-succ', mod-one, one-le-pow}
 use lib.Arith.{mod-mul}
 use Rattle.std.specs.Int.Digits.{number_from_digits, number_from_digits_after, AllBelowBase}
-use Rattle.std.proofs.ByRecursion.{All-from_get_or}
+use Rattle.std.proofs.lemmas.List.Elements.{All-from_get_or, recursion_from_All}
 
 -- What is read from a slice of bytes fits them.
 pub octets : (bytes : List ℕ) → ((i : ℕ) → Fits w8 (get_or bytes i 0)) → AllBelowBase 256 bytes
-octets bytes small = All-from_get_or (λ d. d < 256) bytes 0 (λ i _. omega (arith, small i))
+octets bytes small = recursion_from_All (λ d. d < 256) bytes (All-from_get_or (λ d. d < 256) bytes 0 (λ i _. omega (arith, small i)))
 
 -- The k lowest bytes of a number.
 abbrev pub bytes_of : ℕ → ℕ → List ℕ

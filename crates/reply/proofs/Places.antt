@@ -1,4 +1,4 @@
--- Fields put at their places are found there again. Assumes nothing.
+-- Fields put at their places are found there again.
 use Rattle.std.proofs.Common.{◌≡◌, ℕ, ◌+◌, ◌*◌, ◌^◌, ◌<◌, arith}
 use Rattle.reply.specs.Layout.{part}
 use Rattle.reply.specs.declared.Fields.{Fields}

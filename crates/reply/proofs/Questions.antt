@@ -1,4 +1,4 @@
--- What a roster replies can be read back. Assumes nothing.
+-- What a roster replies can be read back.
 use Rattle.std.proofs.Common.{◌≡◌, ℕ, ◌≤◌, Bool, true, false, cond, ◌&&◌, eqb, leb, List, length, take, Ok, Err, Result, refl, subst, arith, take_all, leb-true}
 use Rattle.std.proofs.lemmas.Bool.{cond_both}
 use Rattle.algebra.specs.Ring.{Ops}

@@ -1,4 +1,4 @@
--- A record's fields are narrow enough for their places, and acceptable. Assumes nothing.
+-- A record's fields are narrow enough for their places, and acceptable.
 use Rattle.std.proofs.Common.{◌≡◌, ℕ, ◌^◌, ◌<◌, ◌≤◌, Bool, true, false, cond, ◌&&◌, ◌||◌, eqb, List, length, Ok, Err, Result, sym, refl, ap, ◌∙◌, subst, lt_of_lt_of_le, arith, lit<, pow_mono, eq-eqb, eqb-true, le-leb}
 use Rattle.std.specs.Int.Digits.{number_from_digits, AllBelowBase}
 use Rattle.std.proofs.lemmas.Int.Digits.{number_lt}

@@ -1,4 +1,4 @@
--- What a roster replies to a question, told from the ledger that its cells hold. Assumes nothing.
+-- What a roster replies to a question, told from the ledger that its cells hold.
 use Rattle.std.specs.Prelude.{◌≡◌, ℕ, cond, ◌&&◌, List, length, take, drop, Ok, Err, Result, ◌==◌, nat_le}
 use Rattle.std.specs.Int.Digits.{AllBelowBase}
 use Rattle.algebra.specs.Ring.{Ops}

@@ -1,4 +1,4 @@
--- Where the fields of a reply record stand. Assumes nothing.
+-- Where the fields of a reply record stand.
 use Rattle.std.specs.Prelude.{◌≡◌, ℕ, ◌-◌, ◌/◌, ◌%◌, ◌^◌, List, length}
 use Rattle.std.specs.Int.Digits.{number_from_digits}
 use Rattle.reply.specs.declared.Fields.{Fields}

@@ -1,4 +1,4 @@
--- What a reply record may say. Assumes nothing.
+-- What a reply record may say.
 use Rattle.std.specs.Prelude.{ℕ, Bool, cond, ◌&&◌, ◌||◌, List, length, Ok, Err, Result, ◌==◌, nat_le, nat_lt}
 use Rattle.figures.specs.Residues.{modulus}
 use Rattle.reply.specs.Layout.{fields_in, spare_in}

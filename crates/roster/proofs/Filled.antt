@@ -1,4 +1,4 @@
--- What calls of a closure that gives x each time have filled a list with. Assumes nothing.
+-- What calls of a closure that gives x each time have filled a list with.
 use Rattle.std.proofs.Common.{◌≡◌, ℕ, List, [], ◌∷◌, length, replicate, refl, ap, ◌∙◌, subst, ap₂}
 use Rattle.std.specs.List.{FoldsTo}
 

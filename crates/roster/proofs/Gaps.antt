@@ -1,4 +1,4 @@
--- Closing the gap that a life leaves. Assumes nothing.
+-- Closing the gap that a life leaves.
 use Rattle.std.proofs.Common.{◌≡◌, ℕ, ◌+◌, ◌<◌, ◌≤◌, List, map, length, get_or, set, sym, refl, ap, ◌∙◌, ap₂, arith}
 use Rattle.std.specs.List.{range_with_len}
 use Rattle.algebra.proofs.Rows.{length_counting}

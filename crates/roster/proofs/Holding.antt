@@ -1,7 +1,7 @@
--- What the passes leave where the cells held a ledger. Assumes nothing.
+-- What the passes leave where the cells held a ledger.
 use Rattle.std.proofs.Common.{◌≡◌, ℕ, zero, suc, ◌+◌, ◌-◌, ◌<◌, ◌≤◌, ◌≢◌, List, [], ◌∷◌, ◌++◌, map, length, get_or, take, drop, set, replicate, Some, sym, refl, ap, ◌∙◌, subst, ap₂, append-nil, add-one, arith, length-append}
 use Rattle.std.specs.List.{range_with_len, AllByRecursion}
-use Rattle.std.proofs.ByRecursion.{All-append, All-push}
+use Rattle.algebra.proofs.Each.{each_append}
 use Rattle.std.proofs.lemmas.List.{get_or_past, get_or_at, get_or_append_left, get_or-append_right, get_or-set_other, set_at, length_push, map-append, length-map}
 use Rattle.algebra.specs.Ring.{Ops, Laws}
 use Rattle.algebra.specs.Sums.{elementary}
@@ -123,7 +123,7 @@ module _ {F P : Type 0} {o : Ops F} (L : Laws o) (plain : F → P) where
       record {
         room = held.room;
         few = omega (arith, length_push lives m);
-        numbered = All-push (λ m. m.number ≢ 0) lives m held.numbered some;
+        numbered = each_append (λ m. m.number ≢ 0) lives (m ∷ []) held.numbered (some, tt);
         are = ap (λ xs. set xs (n + 1) cell) after_is
             ∙ set_map_counting f (cell_at o plain l.whole more) size (n + 1) cell
             (same_cell cell (cell_at o plain l.whole more (n + 1)) (written ∙ ap plain (sym (field_at_lem (λ m. m.figure) l.whole o.zero lives m [] (n + 1) here)))
@@ -184,7 +184,7 @@ module _ {F P : Type 0} {o : Ops F} (L : Laws o) (plain : F → P) where
         record {
           room = held.room;
           few = omega (arith, many, held.few, ap length a.gone);
-          numbered = subst (AllByRecursion (λ m. m.number ≢ 0)) (sym a.gone) (All-append (λ m. m.number ≢ 0) bs cs ok.0 ok.2);
+          numbered = subst (AllByRecursion (λ m. m.number ≢ 0)) (sym a.gone) (each_append (λ m. m.number ≢ 0) bs cs ok.0 ok.2);
           are = after_is ∙ ap (laid o plain size l.whole) (sym a.gone);
         }
 
@@ -211,7 +211,7 @@ module _ {F P : Type 0} {o : Ops F} (L : Laws o) (plain : F → P) where
         record {
           room = held.room;
           few = omega (arith, held.few, ap length (a.anew x), ap length a.are);
-          numbered = subst (AllByRecursion (λ m. m.number ≢ 0)) (sym (a.anew x)) (All-append (λ m. m.number ≢ 0) bs (m' ∷ cs) ok.0 ((λ z. ok.1 (a.named ∙ z)), ok.2));
+          numbered = subst (AllByRecursion (λ m. m.number ≢ 0)) (sym (a.anew x)) (each_append (λ m. m.number ≢ 0) bs (m' ∷ cs) ok.0 ((λ z. ok.1 (a.named ∙ z)), ok.2));
           are = after-laid ∙ ap (laid o plain size l.whole) (sym (a.anew x));
         }
 

@@ -1,4 +1,4 @@
--- Reading and writing cells that are laid out from a ledger. Assumes nothing.
+-- Reading and writing cells that are laid out from a ledger.
 use Rattle.std.proofs.Common.{◌≡◌, ℕ, zero, suc, ◌+◌, ◌-◌, ◌<◌, ◌≤◌, min, not, cond, eqb, ltb, ◌≢◌, List, [], ◌∷◌, map, length, get_or, take, drop, set, sym, refl, ap, ◌∙◌, add-one, arith, length-drop}
 use Rattle.std.specs.List.{range_with_len, prefix_len, AllByRecursion}
 use Rattle.std.proofs.lemmas.List.{get_or_past, get_or_default, get_or-map, get_or-take, get_or-drop, length-take, same_lists, length-map}

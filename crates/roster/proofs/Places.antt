@@ -1,4 +1,4 @@
--- Where a number stands among the lives. Assumes nothing.
+-- Where a number stands among the lives.
 use Rattle.std.proofs.Common.{◌≡◌, ℕ, suc, ◌+◌, Bool, true, false, not, cond, ◌||◌, eqb, leb, ltb, ◌⊎◌, List, [], ◌∷◌, ◌++◌, map, length, Some, None, Option, sym, refl, ap, ◌∙◌, ap₂, inl, inr, one-add, arith}
 use lib.Dec.{leb-suc-suc}
 use Rattle.std.specs.List.{position, position_or_len}

@@ -1,4 +1,4 @@
--- A round of doubling and adding. Assumes nothing.
+-- A round of doubling and adding.
 use Rattle.std.proofs.Common.{◌≡◌, ℕ, ◌/◌, ◌%◌}
 use Rattle.algebra.specs.Ring.{Ops, Laws}
 use Rattle.algebra.specs.Sums.{multiple}

@@ -1,4 +1,4 @@
--- What a question reads from cells that hold a ledger, and that it leaves them so. Assumes nothing.
+-- What a question reads from cells that hold a ledger, and that it leaves them so.
 use Rattle.std.proofs.Common.{◌≡◌, ℕ, ◌+◌, ◌<◌, ◌≤◌, Bool, true, false, cond, leb, List, ◌∷◌, ◌++◌, map, length, get_or, drop, sym, ap, ◌∙◌, add-one, arith}
 use Rattle.std.proofs.lemmas.Bool.{cond-true, le-leb}
 use Rattle.algebra.specs.Ring.{Ops, Laws, semi}

@@ -1,4 +1,4 @@
--- The alternating sums as the questions compute them. Assumes nothing.
+-- The alternating sums as the questions compute them.
 use Rattle.std.proofs.Common.{◌≡◌, ℕ, zero, suc, ◌+◌, ◌%◌, List, [], ◌∷◌, length, sym, refl, ap, ◌∙◌, ap₂, add-one, arith}
 use Rattle.std.proofs.lemmas.List.{nil_from_length}
 use Rattle.algebra.specs.Ring.{Ops, Laws}

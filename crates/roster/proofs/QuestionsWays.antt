@@ -1,4 +1,4 @@
--- The passes of running sums that make the coefficients. Assumes nothing.
+-- The passes of running sums that make the coefficients.
 use Rattle.std.proofs.Common.{◌≡◌, ℕ, zero, suc, ◌+◌, ◌^◌, ◌<◌, ◌≤◌, get_or, set, replicate, refl, add_comm, add-one, arith}
 use Rattle.std.proofs.lemmas.List.{get_or-replicate}
 use Rattle.algebra.proofs.Binomial.{ways, ways_fits}

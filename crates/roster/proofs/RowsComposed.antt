@@ -1,4 +1,4 @@
--- The composed row: one pass, and one life after the other. Assumes nothing.
+-- The composed row: one pass, and one life after the other.
 use Rattle.std.proofs.Common.{◌≡◌, ℕ, ◌+◌, ◌<◌, ◌≤◌, List, [], ◌∷◌, ◌++◌, map, length, get_or, take, drop, set, sym, ap, ◌∙◌, ap₂, add-one, arith}
 use Rattle.std.proofs.lemmas.List.{length-map, length-take-le, map_more, drop_more, take_at, drop_at, take_all, nil_from_length}
 use Rattle.algebra.specs.Ring.{Semi, Ops, Laws, semi}

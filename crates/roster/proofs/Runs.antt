@@ -1,4 +1,4 @@
--- A chain of calls follows the ledger, since each link does. Assumes nothing.
+-- A chain of calls follows the ledger, since each link does.
 use Rattle.std.proofs.Common.{◌≡◌, ℕ, List, [], ◌∷◌, ◌++◌, sym, refl, ap, ◌∙◌, subst, ap₂}
 use Rattle.algebra.specs.Ring.{Ops}
 use Rattle.roster.specs.Ledger.{Ledger, Call, Answer, answer, next, answers, final}

@@ -1,4 +1,4 @@
--- The passes that turn the kept sums of some lives into those of others. Assumes nothing.
+-- The passes that turn the kept sums of some lives into those of others.
 use Rattle.std.proofs.Common.{◌≡◌, ℕ, zero, suc, ◌+◌, ◌<◌, ◌≤◌, List, [], ◌∷◌, ◌++◌, map, take, drop, sym, refl, ap, ◌∙◌, ap₂, add-one, arith}
 use Rattle.std.specs.List.{range_with_len, scan}
 use Rattle.algebra.specs.Ring.{Ops, Laws}

@@ -1,4 +1,4 @@
--- What the cells of a roster hold, and what a call does to them. Assumes nothing.
+-- What the cells of a roster hold, and what a call does to them.
 use Rattle.std.specs.Prelude.{◌≡◌, ℕ, ◌≤◌, ◌≢◌, List, [], ◌∷◌, map, length, slice_index, slice_index_or}
 use Rattle.std.specs.List.{range_with_len, AllByRecursion}
 use Rattle.algebra.specs.Ring.{Ops}

@@ -1,4 +1,4 @@
--- The ledger on paper: what a roster answers, told from the calls' arguments alone. Assumes nothing.
+-- The ledger on paper: what a roster answers, told from the calls' arguments alone.
 use Rattle.std.specs.Prelude.{ℕ, ◌+◌, ◌-◌, min, Bool, true, false, cond, ◌||◌, List, [], ◌∷◌, ◌++◌, map, length, drop, Some, None, Option, ◌==◌, nat_le}
 use Rattle.algebra.specs.Ring.{Ops, semi}
 use Rattle.algebra.specs.Patterns.{exactly, at_least}

@@ -1,5 +1,5 @@
 -- What the passes over the cells do, which joining, leaving and changing are made of: for contracts inside the crate.
--- No contract of a public call cites these. Assumes nothing.
+-- No contract of a public call cites these.
 use Rattle.std.specs.Prelude.{◌≡◌, ℕ, ◌+◌, ◌<◌, ◌≤◌, List, [], ◌∷◌, ◌++◌, map}
 use Rattle.std.specs.List.{range_with_len, scan}
 use Rattle.algebra.specs.Ring.{Ops}

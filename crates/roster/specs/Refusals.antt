@@ -1,4 +1,4 @@
--- The refusals' numbers, the same in every crate, and results as the ledger's answers. Assumes nothing.
+-- The refusals' numbers, the same in every crate, and results as the ledger's answers.
 use Rattle.std.specs.Prelude.{ℕ, List, Ok, Err, Result}
 use Rattle.roster.specs.Ledger.{Answer, Done, Refused, Figure, Table, RefusedTable}
 use Rattle.roster.specs.declared.refusals.Refusal.{Refusal}

@@ -1,4 +1,4 @@
--- The promise over runs: a chain of calls on a newly opened roster follows the ledger. Assumes nothing.
+-- The promise over runs: a chain of calls on a newly opened roster follows the ledger.
 use Rattle.std.specs.Prelude.{◌≡◌, ℕ, List}
 use Rattle.algebra.specs.Ring.{Ops}
 use Rattle.roster.specs.Ledger.{Ledger, Call, Answer, opened, answer, next}

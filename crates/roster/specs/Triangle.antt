@@ -1,4 +1,4 @@
--- One pass of the triangle over a row of figures: for contracts inside the crate. Assumes nothing.
+-- One pass of the triangle over a row of figures: for contracts inside the crate.
 use Rattle.std.specs.Prelude.{List, [], ◌∷◌, slice_index_or}
 use Rattle.algebra.specs.Ring.{Ops}
 

@@ -18,7 +18,7 @@ mod writing;
 
 pub use cells::Cell;
 pub use refusals::Refusal;
-pub use replays::replay;
+pub use replays::{perform, replay};
 pub use requests::{Answer, Outcome, Refused, Request};
 pub use rosters::{Roster, close};
 pub use slips::{Slip, Unclosed, take_into_use};

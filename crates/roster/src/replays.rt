@@ -26,8 +26,8 @@ fn tabled<F, P>(res: Result<(), Refusal>, table: Vec<P>) -> Outcome<F, P>
     }
 }
 
-/// Makes one call.
-fn perform<F: Ring>(
+/// Makes one call of a roster.
+pub fn perform<F: Ring>(
     roster: &mut Roster<'_, F>,
     request: Request<F, F::Plain>,
 ) -> Outcome<F, F::Plain>

@@ -1,4 +1,4 @@
--- Reading decimal digits one by one. Assumes nothing.
+-- Reading decimal digits one by one.
 use Rattle.std.proofs.Common.{◌≡◌, ℕ, ◌+◌, ◌-◌, ◌*◌, ◌<◌, ◌≤◌, Bool, true, false, cond, ◌&&◌, leb, List, map, length, get_or, drop, Some, None, Option, refl, ap, ◌∙◌, arith, le-leb}
 use Rattle.std.proofs.lemmas.Bool.{and_right, lt-leb}
 use Rattle.std.specs.Int.Digits.{number_from_digits_after}

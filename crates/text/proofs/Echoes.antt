@@ -1,4 +1,4 @@
--- Words echoed one by one. Assumes nothing.
+-- Words echoed one by one.
 use Rattle.std.proofs.Common.{◌≡◌, ℕ, ◌+◌, ◌<◌, List, [], ◌∷◌, ◌++◌, map, length, get_or, drop, Bor, sym, ap, ◌∙◌, append_assoc}
 use Rattle.std.proofs.lemmas.List.{drop_more}
 use Rattle.text.specs.Text.{echoed, echoed_words}

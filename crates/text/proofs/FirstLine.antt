@@ -1,4 +1,4 @@
--- Taking the first line off the input. Assumes nothing.
+-- Taking the first line off the input.
 use Rattle.std.proofs.Common.{◌≡◌, ℕ, ◌<◌, ◌≤◌, Bool, true, false, cond, List, ◌∷◌, map, length, Some, None, Option, sym, refl, ap, ap₂, ◌∙◌, ◌==◌, arith, ltb-true, ltb-false}
 use Rattle.std.specs.Prelude.{nat_lt}
 use Rattle.std.specs.List.{filter, position_or_len}

@@ -1,4 +1,4 @@
--- How much is still to be read. Assumes nothing.
+-- How much is still to be read.
 use Rattle.std.specs.Prelude.{ℕ, length}
 use Rattle.text.specs.declared.words.Lines.{Lines}
 

@@ -1,4 +1,4 @@
--- What the program reads and prints, as functions on bytes. Assumes nothing.
+-- What the program reads and prints, as functions on bytes.
 use Rattle.std.specs.Prelude.{ℕ, ◌+◌, ◌-◌, ◌*◌, ◌/◌, ◌%◌, Bool, true, false, cond, not, length, ◌&&◌, ◌||◌, List, [], ◌∷◌, ◌++◌, map, take, drop, Some, None, codes, decimal, Option, ◌==◌, nat_le, position}
 use Rattle.std.specs.List.{filter, slice_split}
 use Rattle.std.specs.Int.Digits.{number_from_digits}

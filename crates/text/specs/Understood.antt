@@ -1,4 +1,4 @@
--- Whether a line was understood, as the program's status tells. Assumes nothing.
+-- Whether a line was understood, as the program's status tells.
 use Rattle.std.specs.Prelude.{Bool, true, false, Result, Ok, Err}
 use Rattle.text.specs.declared.unanswered.Unanswered.{Unanswered}
 use Rattle.text.specs.declared.unanswered.Unanswered.TheVariants.{NotUnderstood, Refused, NoMemory}
