@@ -1,7 +1,7 @@
 -- What a reply can hold.
 use Rattle.std.specs.Prelude.{◌≡◌, ℕ, ◌^◌, ◌<◌, ◌≤◌}
 
--- A kind number, a width and a figure that a record has room for: three kinds, at most 64 bits, and kind 2 holds residues.
+-- A kind number, a width and a figure that a record has room for: a kind from 1 to 3, at most 64 bits, and kind 2 holds residues.
 pub record Admitted (kind width figure : ℕ) : Type 0 where
   pub least : 1 ≤ kind
   pub greatest : kind ≤ 3
