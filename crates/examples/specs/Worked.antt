@@ -1,6 +1,7 @@
--- Worked examples, computed from the definitions that the calls' contracts cite, beside the numbers that are expected.
-use Rattle.std.specs.Prelude.{ℕ, suc, ◌-◌, ◌^◌, List, [], ◌∷◌, ◌++◌, map, length, ℤ, pos, negsuc}
-use Rattle.std.specs.List.{range_with_len}
+-- Worked examples. `computed` has what the definitions that the calls' contracts cite answer on small numbers, a list for
+-- each group of calls; `listed` has what is expected of them. The contract of `examples_follow` says that the two are
+-- the same: the same outcomes, call by call.
+use Rattle.std.specs.Prelude.{ℕ, ◌+◌, ◌-◌, ◌^◌, List, [], ◌∷◌, map, flat_map, ℤ, pos, Option, Some, None, Result, Ok, Err}
 use Rattle.algebra.specs.Ring.{Ops}
 use Rattle.figures.specs.Words as words
 use Rattle.figures.specs.Residues as residues
@@ -12,84 +13,101 @@ use Rattle.figures.specs.declared.kinds.Scenarios.{Scenarios}
 use Rattle.figures.specs.declared.kinds.Dual.{Dual}
 use Rattle.roster.specs.Ledger.{Call, Join, Leave, Exactly, AtLeast, Composed, Answer, Done, Refused, Figure, Table, RefusedTable, opened, answers}
 use Rattle.money.specs.Money.{money_row, factor_of}
-use Rattle.exchangeable.specs.Events.{top, value, row}
+use Rattle.exchangeable.specs.Answer as exchangeable
+use Rattle.exchangeable.specs.declared.Refusal.{Refusal}
 
--- An answer as numbers: nothing where it was done, a refusal's number, a figure's numbers, or a table's.
-abbrev shown : {F P : Type 0} → (F → List ℕ) → (List P → List ℕ) → Answer F P → List ℕ
-shown figure table Done = []
-shown figure table (Refused n) = n ∷ []
-shown figure table (Figure x) = figure x
-shown figure table (Table t) = table t
-shown figure table (RefusedTable n t) = n ∷ table t
+-- What came of a call: it was done; it was refused, with the refusal's number and the place that it names; a figure; a
+-- slope's figure, as its value and its rate; a row; or a refused row, with the number and the table as it is then.
+pub data Outcome : Type 0 where
+  done : Outcome
+  refused : ℕ → Option ℕ → Outcome
+  figure : ℕ → Outcome
+  slope : ℕ → ℕ → Outcome
+  row : List ℤ → Outcome
+  refused_row : ℕ → List ℤ → Outcome
 
-module _ {F P : Type 0} (o : Ops F) (plain : F → P) (figure : F → List ℕ) (table : List P → List ℕ) where
+-- What came of a call on a roster, by how its kind shows a figure, and what numbers an entry of a row has.
+abbrev of_answer : {F P : Type 0} → (F → Outcome) → (P → List ℤ) → Answer F P → Outcome
+of_answer shown entry Done = done
+of_answer shown entry (Refused n) = refused n None
+of_answer shown entry (Figure x) = shown x
+of_answer shown entry (Table t) = row (flat_map entry t)
+of_answer shown entry (RefusedTable n t) = refused_row n (flat_map entry t)
+
+module _ {F P : Type 0} (o : Ops F) (plain : F → P) (shown : F → Outcome) (entry : P → List ℤ) where
   -- What the ledger answers to a list of calls, on 65 cells.
-  abbrev told : F → List (Call F P) → List (List ℕ)
-  told d calls = map (shown figure table) (answers o plain (opened 65 d) calls)
+  abbrev told : F → List (Call F P) → List Outcome
+  told d calls = map (of_answer shown entry) (answers o plain (opened 65 d) calls)
 
-abbrev on_words : ℕ → List (Call Word ℕ) → List (List ℕ)
-on_words d calls = told words.ops (λ x. x.number) (λ x. x.number ∷ []) (λ t. t) (words.word d) calls
+-- An entry of a row is one number, but over slopes.
+abbrev one : ℕ → List ℤ
+one x = pos x ∷ []
 
-abbrev on_residues : ℕ → List (Call Residue ℕ) → List (List ℕ)
-on_residues d calls = told residues.ops (λ x. x.number) (λ x. x.number ∷ []) (λ t. t) (residues.residue d) calls
+abbrev on_words : ℕ → List (Call Word ℕ) → List Outcome
+on_words d calls = told words.ops (λ x. x.number) (λ x. figure x.number) one (words.word d) calls
 
-abbrev on_scenarios : ℕ → List (Call Scenarios ℕ) → List (List ℕ)
-on_scenarios d calls = told bits.ops (λ x. x.bits) (λ x. x.bits ∷ []) (λ t. t) (bits.scenarios d) calls
+abbrev on_residues : ℕ → List (Call Residue ℕ) → List Outcome
+on_residues d calls = told residues.ops (λ x. x.number) (λ x. figure x.number) one (residues.residue d) calls
 
-abbrev on_slopes : Dual Word → List (Call (Dual Word) (Dual ℕ)) → List (List ℕ)
+abbrev on_scenarios : ℕ → List (Call Scenarios ℕ) → List Outcome
+on_scenarios d calls = told bits.ops (λ x. x.bits) (λ x. figure x.bits) one (bits.scenarios d) calls
+
+-- Over slopes it is two, a value and then a rate.
+abbrev on_slopes : Dual Word → List (Call (Dual Word) (Dual ℕ)) → List Outcome
 on_slopes d calls =
-    told (duals.ops words.ops) (λ x. duals.dual x.value.number x.rate.number)
-    (λ x. x.value.number ∷ x.rate.number ∷ []) (λ t. []) d calls
+    told (duals.ops words.ops) (λ x. duals.dual x.value.number x.rate.number) (λ x. slope x.value.number x.rate.number)
+    (λ x. pos x.value ∷ pos x.rate ∷ []) d calls
 
--- The place of the first number below zero, or the count of numbers where none is.
-abbrev negative : List ℤ → ℕ
-negative [] = 0
-negative (pos n ∷ zs) = suc (negative zs)
-negative (negsuc n ∷ zs) = 0
+abbrev slope_word : ℕ → ℕ → Dual Word
+slope_word a b = duals.dual (words.word a) (words.word b)
 
--- For a table: where its first negative weight stands, and the row for m as sizes.
-abbrev size : ℤ → ℕ
-size (pos n) = n
-size (negsuc n) = suc n
+-- What came of a call on a table.
+abbrev of_result : Result (List ℤ) Refusal → Outcome
+of_result (Ok zs) = row zs
+of_result (Err e) = refused (exchangeable.number e) (exchangeable.place e)
 
-abbrev tabled : List ℕ → ℕ → List ℕ
-tabled u m = negative (map (λ k. value u k (top u)) (range_with_len 0 (length u))) ∷ map size (row u m)
+-- What is answered for the row m of a table, into an output of `size` entries.
+abbrev on_table : List ℕ → ℕ → ℕ → Outcome
+on_table u m size = of_result (exchangeable.answer u m size)
 
-abbrev slope : ℕ → ℕ → Dual Word
-slope a b = duals.dual (words.word a) (words.word b)
-
-abbrev pub computed : List (List ℕ)
+abbrev pub computed : List (List Outcome)
 computed =
     on_words 10 (Join 1 (words.word 9) ∷ Join 2 (words.word 8) ∷ Join 3 (words.word 5) ∷ Composed (0 ∷ 0 ∷ 0 ∷ 0 ∷ [])
     ∷ AtLeast 0 ∷ AtLeast 1 ∷ AtLeast 2 ∷ AtLeast 3 ∷ Leave 2 ∷ Composed (0 ∷ 0 ∷ 0 ∷ []) ∷ [])
-    ++ (on_words 10 (Exactly 0 ∷ Exactly 1 ∷ [])
-    ++ (on_scenarios (2 ^ 64 - 1) (Join 1 (bits.scenarios 12) ∷ Join 2 (bits.scenarios 10) ∷ Join 3 (bits.scenarios 6) ∷ Exactly 2 ∷ Exactly 1 ∷ [])
-    ++ (on_slopes (slope 10 0) (Join 1 (slope 9 1) ∷ Join 2 (slope 8 0) ∷ Join 3 (slope 5 0) ∷ Exactly 3 ∷ Exactly 2 ∷ [])
-    ++ (on_words (2 ^ 32) (Join 1 (words.word (2 ^ 32)) ∷ Join 2 (words.word (2 ^ 32)) ∷ Exactly 2 ∷ [])
-    ++ (on_residues 1 (Join 1 (residues.residue (2 ^ 30)) ∷ Join 2 (residues.residue 2) ∷ Exactly 2 ∷ [])
-    ++ (money_row (1 ∷ 1 ∷ []) ∷ money_row (900000000 ∷ 800000000 ∷ 500000000 ∷ [])
-    ∷ (factor_of (900000000 ∷ 800000000 ∷ 500000000 ∷ []) 2 ∷ [])
-    ∷ tabled (8 ∷ 4 ∷ 2 ∷ 1 ∷ []) 3 ∷ tabled (4 ∷ 2 ∷ 0 ∷ []) 2
-    ∷ tabled (4 ∷ 3 ∷ 1 ∷ []) 2 ∷ tabled (4 ∷ 1 ∷ 2 ∷ []) 2 ∷ []))))))
+    ∷ on_words 10 (Exactly 0 ∷ Exactly 1 ∷ [])
+    ∷ on_words 10 (Join 0 (words.word 9) ∷ Join 1 (words.word 9) ∷ Join 1 (words.word 8) ∷ Leave 2 ∷ Exactly 65 ∷ Composed (7 ∷ []) ∷ [])
+    ∷ on_scenarios (2 ^ 64 - 1) (Join 1 (bits.scenarios 12) ∷ Join 2 (bits.scenarios 10) ∷ Join 3 (bits.scenarios 6) ∷ Exactly 2 ∷ Exactly 1 ∷ [])
+    ∷ on_slopes (slope_word 10 0) (Join 1 (slope_word 9 1) ∷ Join 2 (slope_word 8 0) ∷ Join 3 (slope_word 5 0) ∷ Exactly 3 ∷ Exactly 2 ∷ [])
+    ∷ on_words (2 ^ 32) (Join 1 (words.word (2 ^ 32)) ∷ Join 2 (words.word (2 ^ 32)) ∷ Exactly 2 ∷ [])
+    ∷ on_residues 1 (Join 1 (residues.residue (2 ^ 30)) ∷ Join 2 (residues.residue 2) ∷ Exactly 2 ∷ [])
+    ∷ (row (map pos (money_row (1 ∷ 1 ∷ []))) ∷ row (map pos (money_row (900000000 ∷ 800000000 ∷ 500000000 ∷ [])))
+    ∷ figure (factor_of (900000000 ∷ 800000000 ∷ 500000000 ∷ []) 2) ∷ [])
+    ∷ (on_table (8 ∷ 4 ∷ 2 ∷ 1 ∷ []) 3 4 ∷ on_table (4 ∷ 2 ∷ 0 ∷ []) 2 3 ∷ on_table (4 ∷ 3 ∷ 1 ∷ []) 2 3 ∷ on_table (4 ∷ 1 ∷ 2 ∷ []) 2 3 ∷ [])
+    ∷ (on_table [] 0 1 ∷ on_table (4 ∷ (2 ^ 30 + 1) ∷ []) 1 2 ∷ on_table (4 ∷ 2 ∷ []) 2 3 ∷ on_table (4 ∷ 2 ∷ []) 1 1 ∷ [])
+    ∷ []
 
-abbrev pub listed : List (List ℕ)
+abbrev pub listed : List (List Outcome)
 listed =
     -- words, whole 10: the lives 9, 8 and 5 join; the row; at least 0 to 3; the life of 8 leaves; the row
-    [] ∷ [] ∷ [] ∷ (10 ∷ 140 ∷ 490 ∷ 360 ∷ [])
-    ∷ (1000 ∷ []) ∷ (990 ∷ []) ∷ (850 ∷ []) ∷ (360 ∷ []) ∷ [] ∷ (5 ∷ 50 ∷ 45 ∷ [])
+    (done ∷ done ∷ done ∷ row (map pos (10 ∷ 140 ∷ 490 ∷ 360 ∷ []))
+    ∷ figure 1000 ∷ figure 990 ∷ figure 850 ∷ figure 360 ∷ done ∷ row (map pos (5 ∷ 50 ∷ 45 ∷ [])) ∷ [])
     -- no lives: exactly 0 is one, exactly 1 is zero
-    ∷ (1 ∷ []) ∷ (0 ∷ [])
+    ∷ (figure 1 ∷ figure 0 ∷ [])
+    -- a join with the number 0; a join; another with the same number; a leave of a number that is not there; a k above 64;
+    -- a row into one entry, which stays
+    ∷ (refused 1 None ∷ done ∷ refused 2 None ∷ refused 3 None ∷ refused 5 None ∷ refused_row 6 (map pos (7 ∷ [])) ∷ [])
     -- scenarios 12, 10 and 6 with whole one: exactly 2 is 14, exactly 1 is 0
-    ∷ [] ∷ [] ∷ [] ∷ (14 ∷ []) ∷ (0 ∷ [])
+    ∷ (done ∷ done ∷ done ∷ figure 14 ∷ figure 0 ∷ [])
     -- slopes over words, whole (10, 0), lives (9, 1), (8, 0) and (5, 0): exactly 3 is (360, 40), exactly 2 is (490, 10)
-    ∷ [] ∷ [] ∷ [] ∷ (360 ∷ 40 ∷ []) ∷ (490 ∷ 10 ∷ [])
+    ∷ (done ∷ done ∷ done ∷ slope 360 40 ∷ slope 490 10 ∷ [])
     -- words, whole and both lives 2^32: exactly 2 is 0
-    ∷ [] ∷ [] ∷ (0 ∷ [])
+    ∷ (done ∷ done ∷ figure 0 ∷ [])
     -- residues, whole one, lives 2^30 and 2: exactly 2 is 1
-    ∷ [] ∷ [] ∷ (1 ∷ [])
+    ∷ (done ∷ done ∷ figure 1 ∷ [])
     -- money rows, and the factor for 2 of the second
-    ∷ (999999998 ∷ 1 ∷ 1 ∷ []) ∷ (10000000 ∷ 140000000 ∷ 490000000 ∷ 360000000 ∷ []) ∷ (850000000 ∷ [])
-    -- two tables without a negative weight, with their rows, and two whose first negative weight is at 0 and at 1
-    ∷ (4 ∷ 1 ∷ 3 ∷ 3 ∷ 1 ∷ []) ∷ (3 ∷ 0 ∷ 4 ∷ 0 ∷ [])
-    ∷ (0 ∷ 1 ∷ 4 ∷ 1 ∷ []) ∷ (1 ∷ 4 ∷ 2 ∷ 2 ∷ [])
+    ∷ (row (map pos (999999998 ∷ 1 ∷ 1 ∷ [])) ∷ row (map pos (10000000 ∷ 140000000 ∷ 490000000 ∷ 360000000 ∷ [])) ∷ figure 850000000 ∷ [])
+    -- two tables that events have, with their rows, and two that none have, whose first negative weight is at 0 and at 1
+    ∷ (row (map pos (1 ∷ 3 ∷ 3 ∷ 1 ∷ [])) ∷ row (map pos (0 ∷ 4 ∷ 0 ∷ [])) ∷ refused 15 (Some 0) ∷ refused 15 (Some 1) ∷ [])
+    -- no coefficients; one above 2^30; a row past the table's last; an output one short
+    ∷ (refused 11 None ∷ refused 12 (Some 1) ∷ refused 13 None ∷ refused 14 None ∷ [])
     ∷ []

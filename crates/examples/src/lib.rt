@@ -4,7 +4,7 @@
 ghost use Rattle.std.specs.Prelude.{◌≡◌};
 ghost use Rattle.examples.specs.Worked.{computed, listed};
 
-/// The definitions that the calls' contracts cite give just the listed numbers.
+/// The definitions that the calls' contracts cite give just the listed outcomes.
 pub fn examples_follow()
     ensures { computed ≡ listed }
 {}

@@ -1,5 +1,8 @@
 -- What a call is answered, and what it leaves in the output.
-use Rattle.std.specs.Prelude.{◌≡◌, ℕ, ◌+◌, ◌^◌, ◌<◌, ◌≤◌, List, map, length, take, drop, pos, ◌≤ℤ◌, ◌<ℤ◌, slice_index, Option, Some, None}
+use Rattle.std.specs.Prelude.{◌≡◌, ℕ, ◌+◌, ◌^◌, ◌<◌, ◌≤◌, ◌||◌, List, map, length, take, drop, ℤ, pos, ◌≤ℤ◌, ◌<ℤ◌, if◌then◌else◌, ◌==◌, nat_lt, position, slice_index, Option, Some, None, Result, Ok, Err}
+use Rattle.std.specs.Int.{is_negative}
+use Rattle.std.specs.List.{range_with_len}
+use Rattle.std.specs.Option.{option_map_or}
 use Rattle.exchangeable.specs.Events.{top, value, row, HasEvents}
 use Rattle.exchangeable.specs.declared.Refusal.{Refusal}
 use Rattle.exchangeable.specs.declared.Refusal.TheVariants.{TableLength, Coefficient, RowAboveTable, ShortOutput, Impossible}
@@ -50,3 +53,28 @@ abbrev pub Answered : List ℕ → ℕ → List ℕ → List ℕ → Type 0
 Answered u m before after =
     Admitted u × (m ≤ top u) × (m + 1 ≤ length before) × HasEvents u
     × (map pos (take (m + 1) after) ≡ row u m) × (drop (m + 1) after ≡ drop (m + 1) before)
+
+-- The same answer computed, from here on.
+
+-- The lowest place of a coefficient outside the limits, in a table that is not empty: 0 where u_0 is 0, else the first
+-- above 2^30.
+abbrev pub misfit_place : List ℕ → Option ℕ
+misfit_place u = if slice_index u 0 == 0 then Some 0 else position (λ x. nat_lt (2 ^ 30) x) u
+
+-- The weights w_0 to w_n of the table.
+abbrev pub weights : List ℕ → List ℤ
+weights u = map (λ k. value u k (top u)) (range_with_len 0 (length u))
+
+-- The lowest place of a negative weight.
+abbrev pub negative_place : List ℕ → Option ℕ
+negative_place u = position is_negative (weights u)
+
+-- What a call for the row m of the table u is answered, where its output has `size` entries: the first refusal that
+-- applies, in this order, else the row. (`option_map_or f o d` is f of what o has, and d where it has nothing.)
+abbrev pub answer : List ℕ → ℕ → ℕ → Result (List ℤ) Refusal
+answer u m size =
+    if length u == 0 || nat_lt 33 (length u) then Err TableLength
+    else option_map_or (λ k. Err (Coefficient k)) (misfit_place u)
+    (if nat_lt (top u) m then Err RowAboveTable
+    else if nat_lt size (m + 1) then Err ShortOutput
+    else option_map_or (λ k. Err (Impossible k)) (negative_place u) (Ok (row u m)))

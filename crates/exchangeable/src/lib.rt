@@ -1,9 +1,9 @@
 //! Rows of exchangeable events, from a table of the weights that chosen events all occur.
 #![tactic(auto)]
 
-ghost use Rattle.std.specs.Prelude.{◌≡◌, ℕ, ◌+◌, ◌-◌, ◌^◌, ◌<◌, ◌≤◌, List, ◌∷◌, length, pos, ◌*ℤ◌, ◌≤ℤ◌, MatchResult, slice_index, slice_index_or};
+ghost use Rattle.std.specs.Prelude.{◌≡◌, ℕ, ◌+◌, ◌-◌, ◌^◌, ◌<◌, ◌≤◌, List, ◌∷◌, map, length, take, pos, ◌*ℤ◌, ◌≤ℤ◌, Ok, Err, MatchResult, slice_index, slice_index_or};
 ghost use Rattle.algebra.specs.Binomial.{choose};
-ghost use Rattle.exchangeable.specs.Answer.{Admitted, Answered, Refused, number, place};
+ghost use Rattle.exchangeable.specs.Answer.{Admitted, Answered, Refused, answer, number, place};
 ghost use Rattle.exchangeable.specs.Events.{value, top};
 
 /// The most coefficients that a table has.
@@ -160,9 +160,12 @@ fn multiply(row: &mut [u64], values: &[i64])
 
 /// The row for m: at place k, over the table's first coefficient, the chance that exactly k of m events occur.
 pub fn exchangeable_row(table: &[u32], m: u32, out: &mut [u64]) -> Result<(), Refusal>
-    ensures { MatchResult result
+    ensures events { MatchResult result
         (λ _. Answered table.now m out.old out.new)
         (λ e. Refused table.now m out.old e × (out.new ≡ out.old)) }
+    ensures computed { MatchResult result
+        (λ _. answer table.now m (length out.old) ≡ Ok (map pos (take (m + 1) out.new)))
+        (λ e. answer table.now m (length out.old) ≡ Err e) }
 {
     let table = Table::admit(table)?;
     let top = table.top();
