@@ -1,7 +1,10 @@
-//! Run examples: a published table, and a long week of calls. Functions are small, since a long one takes long to prove.
+//! Run examples: a published table, a long week of calls, and a list of a call of each sort. Functions are small, since a long one
+//! takes long to prove.
 use figures::{Dual, Residue, Ring, Scenarios, Word};
 use money::money_row;
-use roster::{Cell, Refusal, Request, Roster, Slip, close, replay, take_into_use};
+use roster::{
+    Answer, Cell, Exchange, Refusal, Request, Roster, Slip, close, replay, take_into_use,
+};
 use std::alloc::{AllocError, Global};
 use std::process::Abort;
 use std::test::Fail;
@@ -326,40 +329,80 @@ fn week_of_scenarios(rt: HostRuntime) -> Result<(), Fail> {
     Ok(())
 }
 
-/// One call of each sort; the table of the last row is too short.
-fn week_of_one(heap: Global) -> Result<Vec<Request<Word, u64>>, AllocError> {
-    let figure = Word::from_plain(9);
-    let mut table = Vec::new(heap);
-    table.resize_with(2, || 0)?;
-    let mut requests = Vec::new(heap);
-    requests.push(Request::Join { number: 7, figure })?;
-    requests.push(Request::Change { number: 7, figure })?;
-    requests.push(Request::Exactly { k: 1 })?;
-    requests.push(Request::AtLeast { k: 1 })?;
-    requests.push(Request::Composed { table })?;
-    requests.push(Request::Triangle {
-        table: Vec::new(heap),
-    })?;
-    requests.push(Request::Leave { number: 7 })?;
-    requests.push(Request::Clear)?;
-    Ok(requests)
+/// A call that lets a life join.
+fn join(number: u32, figure: u64) -> Exchange<Word, u64> {
+    let figure = Word::from_plain(figure);
+    Exchange::Asked(Request::Join { number, figure })
 }
 
-/// How many outcomes these calls have.
-fn replayed(heap: Global, slip: &Slip, cells: &mut [Cell<u64>]) -> Result<usize, AllocError> {
-    let requests = week_of_one(heap)?;
-    Ok(replay(heap, slip, cells, Word::from_plain(10), requests)?.len())
+/// A call of each sort, by the lives 9, 8 and 5 of whole 10; and a figure that was answered before.
+fn calls(heap: Global) -> Result<Vec<Exchange<Word, u64>>, AllocError> {
+    let figure = Word::from_plain(5);
+    let mut exchanges = Vec::new(heap);
+    exchanges.push(join(1, 9))?;
+    exchanges.push(join(2, 8))?;
+    exchanges.push(join(3, 1))?;
+    exchanges.push(Exchange::Answered(Ok(Answer::Figure(figure))))?;
+    exchanges.push(Exchange::Asked(Request::Change { number: 3, figure }))?;
+    let table = vec![in heap; 7; 5]?;
+    exchanges.push(Exchange::Asked(Request::Composed { table }))?;
+    let table = vec![in heap; 7; 4]?;
+    exchanges.push(Exchange::Asked(Request::Triangle { table }))?;
+    let table = vec![in heap; 7; 3]?;
+    exchanges.push(Exchange::Asked(Request::Triangle { table }))?;
+    exchanges.push(Exchange::Asked(Request::AtLeast { k: 2 }))?;
+    exchanges.push(Exchange::Asked(Request::Leave { number: 2 }))?;
+    exchanges.push(Exchange::Asked(Request::Exactly { k: 1 }))?;
+    exchanges.push(Exchange::Asked(Request::Clear))?;
+    exchanges.push(Exchange::Asked(Request::Leave { number: 1 }))?;
+    Ok(exchanges)
 }
 
-/// No contract can say that there is memory: a `replay` that always lacks it would keep its promise.
+/// What comes of them: the refusal's number where there is one, the figure, the table.
+const OUTCOMES: [(u32, u64, &[u64]); 13] = [
+    (0, 0, &[]),
+    (0, 0, &[]),
+    (0, 0, &[]),
+    (0, 5, &[]),
+    (0, 0, &[]),
+    (0, 0, &[10, 140, 490, 360, 7]),
+    (0, 0, &[10, 140, 490, 360]),
+    (6, 0, &[7, 7, 7]),
+    (0, 850, &[]),
+    (0, 0, &[]),
+    (0, 50, &[]),
+    (0, 0, &[]),
+    (3, 0, &[]),
+];
+
+/// An outcome as those above; nothing where the call is still to be made.
+fn numbers(exchange: &Exchange<Word, u64>) -> Option<(u32, u64, &[u64])> {
+    match exchange {
+        Exchange::Asked(_) => None,
+        Exchange::Answered(Ok(Answer::Done)) => Some((0, 0, &[])),
+        Exchange::Answered(Ok(Answer::Figure(figure))) => Some((0, figure.to_plain(), &[])),
+        Exchange::Answered(Ok(Answer::Table(table))) => Some((0, 0, table)),
+        Exchange::Answered(Err(refused)) => {
+            let table = refused.table.as_deref().unwrap_or(&[]);
+            Some((refused.refusal.number(), 0, table))
+        }
+    }
+}
+
 #[test]
-fn a_list_of_calls_is_made(rt: HostRuntime) {
-    let mut cells = [stale(1); 3];
+fn a_list_of_calls_is_made(rt: HostRuntime) -> Result<(), Fail> {
+    let mut exchanges = calls(rt.alloc())?;
+    let mut cells = [stale(1); 5];
     let slip = take_into_use(&cells);
-    let outcomes = replayed(rt.alloc(), &slip, &mut cells);
+    replay(&slip, &mut cells, Word::from_plain(10), &mut exchanges);
     match close::<Word>(&mut cells, slip) {
         Ok(()) => {}
         Err(_) => unreachable(),
     }
-    assert_eq!(rt; outcomes.ok(), Some(8));
+    assert_eq!(rt; exchanges.len(), OUTCOMES.len());
+    for (i, outcome) in OUTCOMES.iter().enumerate() {
+        let told = exchanges.get(i).and_then(numbers);
+        assert_eq!(rt; told, Some(*outcome));
+    }
+    Ok(())
 }

@@ -19,7 +19,7 @@ mod writing;
 pub use cells::Cell;
 pub use refusals::Refusal;
 pub use replays::{perform, replay};
-pub use requests::{Answer, Outcome, Refused, Request};
+pub use requests::{Answer, Exchange, Outcome, Refused, Request};
 pub use rosters::{Roster, close};
 pub use slips::{Slip, Unclosed, take_into_use};
 pub use theorems::{chains_follow_the_ledger, waring_sums_hold};

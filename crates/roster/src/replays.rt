@@ -1,17 +1,17 @@
 //! Runs: a list of calls, made of a newly opened roster.
-ghost use Rattle.std.specs.Prelude.{◌≡◌, map, length, MatchResult};
+ghost use Rattle.std.specs.Prelude.{◌≡◌, ℕ, [], ◌∷◌, length};
 ghost use Rattle.roster.specs.Cells.{Holds, Met};
-ghost use Rattle.roster.specs.Ledger.{opened, answers, final};
+ghost use Rattle.roster.specs.Ledger.{Ledger, opened, answers, final};
 ghost use Rattle.roster.specs.Refusals.{table_or};
-ghost use Rattle.roster.specs.Requests.{call_of, answer_of};
+ghost use Rattle.roster.specs.Requests.{call_of, answer_of, asked, Settled};
 
 use crate::cells::Cell;
 use crate::refusals::Refusal;
-use crate::requests::{Answer, Outcome, Refused, Request};
+use crate::requests::{Answer, Exchange, Outcome, Refused, Request};
 use crate::rosters::Roster;
 use crate::slips::Slip;
 use figures::Ring;
-use std::alloc::{AllocError, Global};
+use std::mem::replace;
 
 /// What came of a row.
 fn tabled<F, P>(res: Result<(), Refusal>, table: Vec<P>) -> Outcome<F, P>
@@ -26,7 +26,8 @@ fn tabled<F, P>(res: Result<(), Refusal>, table: Vec<P>) -> Outcome<F, P>
     }
 }
 
-/// Makes one call of a roster.
+/// Makes one call of a roster, and answers what the call of that name answers. A row's table comes back: as it is then, or,
+/// where the row is refused, as it was handed over. A refused call alters nothing.
 pub fn perform<F: Ring>(
     roster: &mut Roster<'_, F>,
     request: Request<F, F::Plain>,
@@ -53,23 +54,36 @@ pub fn perform<F: Ring>(
     Ok(Answer::Done)
 }
 
-/// Opens a roster and makes the calls, one after the other. Where there is no memory for the outcomes, nothing is done.
+/// What becomes of one exchange: a call that is asked is made, and what is answered already stays.
+fn settle<F: Ring>(
+    roster: &mut Roster<'_, F>,
+    exchange: Exchange<F, F::Plain>,
+) -> Exchange<F, F::Plain>
+    ensures settled { (size : ℕ) (l : Ledger F) → Holds F.Ring.ops F.Ring.plain size l roster.old.cells.now → Settled (exchange ∷ []) (answers F.Ring.ops F.Ring.plain l (asked (exchange ∷ []))) (result ∷ []) }
+    ensures holds { (size : ℕ) (l : Ledger F) → Holds F.Ring.ops F.Ring.plain size l roster.old.cells.now → Holds F.Ring.ops F.Ring.plain size (final F.Ring.ops F.Ring.plain l (asked (exchange ∷ []))) roster.new.cells.now }
+    ensures lent { roster.new.cells.ghost_name ≡ roster.old.cells.ghost_name }
+{
+    match exchange {
+        Exchange::Asked(request) => Exchange::Answered(perform(roster, request)),
+        answered => answered,
+    }
+}
+
+/// Opens a roster and makes the calls that are asked, one after the other. Each becomes its outcome, in its place; an
+/// exchange that is answered already is passed over and stays.
 pub fn replay<F: Ring>(
-    heap: Global,
     slip: &Slip,
     cells: &mut [Cell<F::Plain>],
     whole: F,
-    requests: Vec<Request<F, F::Plain>>,
-) -> Result<Vec<Outcome<F, F::Plain>>, AllocError>
-    ensures { MatchResult result
-        (λ outcomes. (map answer_of outcomes.items ≡ answers F.Ring.ops F.Ring.plain (opened (length cells.old) whole) (map call_of requests.items))
-        × Holds F.Ring.ops F.Ring.plain (length cells.old) (final F.Ring.ops F.Ring.plain (opened (length cells.old) whole) (map call_of requests.items)) cells.new)
-        (λ _. cells.new ≡ cells.old) }
+    exchanges: &mut [Exchange<F, F::Plain>],
+)
+    ensures settled { Settled exchanges.old (answers F.Ring.ops F.Ring.plain (opened (length cells.old) whole) (asked exchanges.old)) exchanges.new }
+    ensures holds { Holds F.Ring.ops F.Ring.plain (length cells.old) (final F.Ring.ops F.Ring.plain (opened (length cells.old) whole) (asked exchanges.old)) cells.new }
 {
-    let mut outcomes = Vec::with_capacity(heap, requests.len())?;
     let mut roster = Roster::open(slip, cells, whole);
-    for request in requests {
-        outcomes.push_reserved(perform(&mut roster, request));
+    for exchange in exchanges.iter_mut() {
+        // Something has to stand in its place while the call has it.
+        let taken = replace(exchange, Exchange::Answered(Ok(Answer::Done)));
+        *exchange = settle(&mut roster, taken);
     }
-    Ok(outcomes)
 }

@@ -44,3 +44,10 @@ impl<P> From<Refusal> for Refused<P> {
 
 /// What came of a call.
 pub type Outcome<F, P> = Result<Answer<F, P>, Refused<P>>;
+
+/// A call that is still to be made, or what came of one.
+#[derive(Drop)]
+pub enum Exchange<F, P> {
+    Asked(Request<F, P>),
+    Answered(Outcome<F, P>),
+}
