@@ -6,10 +6,10 @@ use crate::commands::obey;
 use crate::console::Console;
 use figures::{Dual, Packable, Residue, Ring, Scenarios, Word};
 use reply::asked;
-use roster::{Cell, Roster, close, take_into_use};
+use roster::{Cell, Request, Roster, close, perform, take_into_use};
 use std::alloc::Global;
 use text::Unanswered::{self, NotUnderstood};
-use text::{Hex, Typed, done, filled, short_number, size, table_text};
+use text::{Hex, Typed, filled, outcome_text, short_number, size};
 
 /// Obeys every line.
 pub fn run(console: &mut Console) -> anyhow::Result<()> {
@@ -94,7 +94,6 @@ where
 }
 
 /// A line between `open` and `close`.
-// An arm for each command, each whole: those that look alike make another call.
 fn ask<F: Packable>(
     heap: Global,
     roster: &mut Roster<F>,
@@ -103,55 +102,18 @@ fn ask<F: Packable>(
 where
     F::Plain: Typed,
 {
+    if let Some(request) = request(heap, words)? {
+        return outcome_text(heap, perform(roster, request));
+    }
     let text = match words {
-        [b"join", number, figure] => {
-            let number = short_number(number).ok_or(NotUnderstood)?;
-            roster.join(number, read(figure)?)?;
-            done(heap)
-        }
-        [b"leave", number] => {
-            let number = short_number(number).ok_or(NotUnderstood)?;
-            roster.leave(number)?;
-            done(heap)
-        }
-        [b"change", number, figure] => {
-            let number = short_number(number).ok_or(NotUnderstood)?;
-            roster.change(number, read(figure)?)?;
-            done(heap)
-        }
-        [b"clear"] => {
-            roster.clear();
-            done(heap)
-        }
-        [b"exactly", k] => {
-            let k = short_number(k).ok_or(NotUnderstood)?;
-            roster.exactly(k)?.to_plain().show(heap)
-        }
-        [b"at-least", k] => {
-            let k = short_number(k).ok_or(NotUnderstood)?;
-            roster.at_least(k)?.to_plain().show(heap)
-        }
         [b"lives"] => roster.lives().to_string(heap),
-        [b"find", number] => {
-            let number = short_number(number).ok_or(NotUnderstood)?;
-            match roster.find(number) {
-                Some(place) => place.to_string(heap),
-                None => String::from_str(heap, "none"),
-            }
-        }
-        [b"composed", entries] => {
-            let mut table = zeros::<F>(heap, entries)?;
-            roster.composed_row(&mut table)?;
-            table_text(heap, &table)
-        }
-        [b"triangle", entries] => {
-            let mut table = zeros::<F>(heap, entries)?;
-            roster.triangle_row(&mut table)?;
-            table_text(heap, &table)
-        }
+        [b"find", number] => match roster.find(read_short(number)?) {
+            Some(place) => place.to_string(heap),
+            None => String::from_str(heap, "none"),
+        },
         [b"reply", question, k, bytes] => {
-            let question = short_number(question).ok_or(NotUnderstood)?;
-            let k = short_number(k).ok_or(NotUnderstood)?;
+            let question = read_short(question)?;
+            let k = read_short(k)?;
             let mut out = filled(heap, 0u8, size(bytes).ok_or(NotUnderstood)?)?;
             asked::reply(roster, question, k, &mut out)?;
             Hex(&out).to_string(heap)
@@ -161,8 +123,46 @@ where
     Ok(text?)
 }
 
+/// The call of a roster that words make; none where they make none.
+fn request<F: Packable>(
+    heap: Global,
+    words: &[&[u8]],
+) -> Result<Option<Request<F, F::Plain>>, Unanswered>
+where
+    F::Plain: Typed,
+{
+    let request = match words {
+        [b"join", number, figure] => Request::Join {
+            number: read_short(number)?,
+            figure: read_figure(figure)?,
+        },
+        [b"leave", number] => Request::Leave {
+            number: read_short(number)?,
+        },
+        [b"change", number, figure] => Request::Change {
+            number: read_short(number)?,
+            figure: read_figure(figure)?,
+        },
+        [b"clear"] => Request::Clear,
+        [b"exactly", k] => Request::Exactly { k: read_short(k)? },
+        [b"at-least", k] => Request::AtLeast { k: read_short(k)? },
+        [b"composed", entries] => Request::Composed {
+            table: zeros::<F>(heap, entries)?,
+        },
+        [b"triangle", entries] => Request::Triangle {
+            table: zeros::<F>(heap, entries)?,
+        },
+        _ => return Ok(None),
+    };
+    Ok(Some(request))
+}
+
+fn read_short(word: &[u8]) -> Result<u32, Unanswered> {
+    short_number(word).ok_or(NotUnderstood)
+}
+
 /// The figure that a word writes.
-fn read<F: Packable>(word: &[u8]) -> Result<F, Unanswered>
+fn read_figure<F: Packable>(word: &[u8]) -> Result<F, Unanswered>
 where
     F::Plain: Typed,
 {

@@ -1,9 +1,11 @@
 -- What the program reads and prints, as functions on bytes.
-use Rattle.std.specs.Prelude.{ℕ, ◌+◌, ◌-◌, ◌*◌, ◌/◌, ◌%◌, Bool, true, false, cond, not, length, ◌&&◌, ◌||◌, List, [], ◌∷◌, ◌++◌, map, take, drop, Some, None, codes, decimal, Option, ◌==◌, nat_le, position}
+use Rattle.std.specs.Prelude.{ℕ, ◌+◌, ◌-◌, ◌*◌, ◌/◌, ◌%◌, Bool, true, false, cond, not, length, ◌&&◌, ◌||◌, List, [], ◌∷◌, ◌++◌, map, take, drop, Some, None, codes, decimal, Option, ◌==◌, nat_le, position, vec_items}
 use Rattle.std.specs.List.{filter, slice_split}
 use Rattle.std.specs.Int.Digits.{number_from_digits}
 use Rattle.reply.specs.declared.Fields.{Fields}
 use Rattle.figures.specs.declared.kinds.Dual.{Dual}
+use Rattle.roster.specs.declared.requests.Answer.{Answer}
+use Rattle.roster.specs.declared.requests.Answer.TheVariants.{Done, Figure, Table}
 
 -- Space, tab and carriage return part words.
 abbrev pub blank : ℕ → Bool
@@ -107,6 +109,12 @@ others (t ∷ ts) = 32 ∷ (t ++ others ts)
 abbrev pub spaced : List (List ℕ) → List ℕ
 spaced [] = []
 spaced (t ∷ ts) = t ++ others ts
+
+-- What is printed of a call of a roster that was granted: a figure and a table's entries in their plain form.
+abbrev pub answer_text : {F P : Type 0} → (F → P) → (P → List ℕ) → Answer F P → List ℕ
+answer_text plain text Done = codes "done"
+answer_text plain text (Figure x) = text (plain x)
+answer_text plain text (Table t) = spaced (map text (vec_items t))
 
 -- The words of a line are what stands between blanks.
 abbrev pub words_of : List ℕ → List (List ℕ)

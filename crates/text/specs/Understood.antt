@@ -1,5 +1,5 @@
 -- Whether a line was understood, as the program's status tells.
-use Rattle.std.specs.Prelude.{Bool, true, false, Result, Ok, Err}
+use Rattle.std.specs.Prelude.{Bool, true, false, Result, Ok, Err, ⊤}
 use Rattle.text.specs.declared.unanswered.Unanswered.{Unanswered}
 use Rattle.text.specs.declared.unanswered.Unanswered.TheVariants.{NotUnderstood, Refused, NoMemory}
 
@@ -9,3 +9,9 @@ is_understood (Ok text) = true
 is_understood (Err NotUnderstood) = false
 is_understood (Err (Refused refusal)) = true
 is_understood (Err NoMemory) = true
+
+-- Of a reading that fails: it is not understood only where something is not what its place asks for, and never refused. It may want memory.
+abbrev pub FailsOnlyWhere : Type 0 → Unanswered → Type 0
+FailsOnlyWhere wrong NotUnderstood = wrong
+FailsOnlyWhere wrong (Refused refusal) = ⊥
+FailsOnlyWhere wrong NoMemory = ⊤

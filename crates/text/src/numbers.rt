@@ -1,6 +1,7 @@
 //! Decimal numbers as they are typed.
-ghost use Rattle.std.specs.Prelude.{◌≡◌, ◌≤◌, IfSome, IfOk, Some, map};
+ghost use Rattle.std.specs.Prelude.{◌≡◌, ◌≤◌, IfSome, IfOk, IfErr, Some, None, Any, map};
 ghost use Rattle.text.specs.Text.{number_within};
+ghost use Rattle.text.specs.Understood.{FailsOnlyWhere};
 
 use crate::unanswered::Unanswered;
 use std::alloc::Global;
@@ -48,7 +49,8 @@ pub fn size(word: &[u8]) -> Option<usize>
 
 /// A list of 32-bit numbers.
 pub fn short_numbers(heap: Global, words: &[&[u8]]) -> Result<Vec<u32>, Unanswered>
-    ensures { IfOk result (λ v. map Some v.items ≡ map (λ word. number_within 4294967295 word.now) words.now) }
+    ensures numbers { IfOk result (λ v. map Some v.items ≡ map (λ word. number_within 4294967295 word.now) words.now) }
+    ensures unread { IfErr result (FailsOnlyWhere (Any (λ word. number_within 4294967295 word.now ≡ None) words.now)) }
 {
     let mut numbers = Vec::new(heap);
     for word in words {

@@ -79,11 +79,11 @@ impl From<exchangeable::Refusal> for Unanswered {
     }
 }
 
-impl From<roster::Refusal> for Unanswered {
-    ghost from_gives = { λ r u. u ≡ Refused (record { number = roster_number r; place = None }) };
+impl<P: Copy> From<roster::Refused<P>> for Unanswered {
+    ghost from_gives = { λ r u. u ≡ Refused (record { number = roster_number r.refusal; place = None }) };
 
-    fn from(refusal: roster::Refusal) -> Unanswered {
-        Unanswered::refused(refusal.number(), None)
+    fn from(refused: roster::Refused<P>) -> Unanswered {
+        Unanswered::refused(refused.refusal.number(), None)
     }
 }
 

@@ -54,6 +54,7 @@ impl<'a> Lines<'a> {
         ensures onward { left self.new ≤ left self.old }
         ensures read { IfOk result (λ o. OnSome o (left self.new < left self.old)) }
         ensures command { IfOk result (λ o. MatchOption o (commands self.old.rest.now ≡ []) (λ words. commands self.old.rest.now ≡ map (λ word. word.now) words.items ∷ commands self.new.rest.now)) }
+        ensures end { IfOk result (λ o. IfNone o (self.new.rest.now ≡ [])) }
     {
         while let Some(line) = self.next_line() {
             let words = words(self.heap, line)?;
