@@ -1,5 +1,5 @@
-//! Run examples: a published table, a long week of calls, and a list of a call of each sort. Functions are small, since a long one
-//! takes long to prove.
+//! Run examples: a published table, a long week of calls, and a list with a call of each sort. Functions are small, since
+//! a long one takes long to prove.
 use figures::{Dual, Residue, Ring, Scenarios, Word};
 use money::money_row;
 use roster::{

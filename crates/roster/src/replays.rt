@@ -26,8 +26,9 @@ fn tabled<F, P>(res: Result<(), Refusal>, table: Vec<P>) -> Outcome<F, P>
     }
 }
 
-/// Makes one call of a roster, and answers what the call of that name answers. A row's table comes back: as it is then, or,
-/// where the row is refused, as it was handed over. A refused call alters nothing.
+/// Makes one call of a roster, and answers what came of it: what was granted, or the refusal. A row's table comes back
+/// with the answer, worked where the row is granted, and as it was handed over where it is refused. A refused call
+/// alters nothing.
 pub fn perform<F: Ring>(
     roster: &mut Roster<'_, F>,
     request: Request<F, F::Plain>,
