@@ -16,8 +16,8 @@ use Rattle.money.specs.Money.{money_row, factor_of}
 use Rattle.exchangeable.specs.Answer as exchangeable
 use Rattle.exchangeable.specs.declared.Refusal.{Refusal}
 
--- What came of a call: it was done; it was refused, with the refusal's number and the place that it names; a figure; a
--- slope's figure, as its value and its rate; a row; or a refused row, with the number and the table as it is then.
+-- What came of a call: it was done; it was refused, with the refusal's number and the place that it names; a figure, or
+-- a factor; a slope's figure, as its value and its rate; a row; or a refused row, with the number and the table as it is then.
 pub data Outcome : Type 0 where
   done : Outcome
   refused : ℕ → Option ℕ → Outcome

@@ -1,4 +1,4 @@
--- Requests and outcomes of the code as the ledger's calls and answers.
+-- Requests, outcomes and lists of exchanges of the code as the ledger's calls and answers.
 use Rattle.std.specs.Prelude.{◌≡◌, ℕ, List, [], ◌∷◌, Some, None, Option, Ok, Err, Result, Vec, vec_items}
 use Rattle.roster.specs.Ledger as ledger
 use Rattle.roster.specs.Ledger.{Call}

@@ -1,4 +1,4 @@
-//! The texts of what is granted.
+//! The texts of what is granted, and of what came of a roster's call.
 ghost use Rattle.std.specs.Prelude.{◌≡◌, map, replicate, None, Err, IfOk, IfErr, MatchResult, string_bytes, codes};
 ghost use Rattle.roster.specs.Refusals.{refusal_number};
 ghost use Rattle.text.specs.Text.{spaced, answer_text};

@@ -1,4 +1,4 @@
-//! How each plain form is read and printed: a promise that is no one function's.
+//! How plain forms are read and printed, and bytes and refusals printed: promises that are no one function's.
 ghost use Rattle.std.specs.Prelude.{◌≡◌, ℕ, ◌-◌, ◌^◌, List, Some, None, decimal};
 ghost use Rattle.text.specs.Text.{number_within, slope, slope_text, hex_text, refusal_text};
 ghost use Rattle.text.specs.declared.unanswered.Unanswered.TheVariants.{NoMemory, Refused};
