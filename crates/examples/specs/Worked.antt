@@ -77,7 +77,8 @@ computed =
     ∷ on_words 10 (Exactly 0 ∷ Exactly 1 ∷ [])
     ∷ on_words 10 (Join 0 (words.word 9) ∷ Join 1 (words.word 9) ∷ Join 1 (words.word 8) ∷ Leave 2 ∷ Exactly 65 ∷ Composed (7 ∷ []) ∷ [])
     ∷ on_scenarios (2 ^ 64 - 1) (Join 1 (bits.scenarios 12) ∷ Join 2 (bits.scenarios 10) ∷ Join 3 (bits.scenarios 6) ∷ Exactly 2 ∷ Exactly 1 ∷ [])
-    ∷ on_slopes (slope_word 10 0) (Join 1 (slope_word 9 1) ∷ Join 2 (slope_word 8 0) ∷ Join 3 (slope_word 5 0) ∷ Exactly 3 ∷ Exactly 2 ∷ [])
+    ∷ on_slopes (slope_word 10 0) (Join 1 (slope_word 9 1) ∷ Join 2 (slope_word 8 0) ∷ Join 3 (slope_word 5 0) ∷ Exactly 3 ∷ Exactly 2
+    ∷ Composed (duals.dual 0 0 ∷ duals.dual 0 0 ∷ duals.dual 0 0 ∷ duals.dual 0 0 ∷ []) ∷ [])
     ∷ on_words (2 ^ 32) (Join 1 (words.word (2 ^ 32)) ∷ Join 2 (words.word (2 ^ 32)) ∷ Exactly 2 ∷ [])
     ∷ on_residues 1 (Join 1 (residues.residue (2 ^ 30)) ∷ Join 2 (residues.residue 2) ∷ Exactly 2 ∷ [])
     ∷ (row (map pos (money_row (1 ∷ 1 ∷ []))) ∷ row (map pos (money_row (900000000 ∷ 800000000 ∷ 500000000 ∷ [])))
@@ -98,8 +99,9 @@ listed =
     ∷ (refused 1 None ∷ done ∷ refused 2 None ∷ refused 3 None ∷ refused 5 None ∷ refused_row 6 (map pos (7 ∷ [])) ∷ [])
     -- scenarios 12, 10 and 6 with whole one: exactly 2 is 14, exactly 1 is 0
     ∷ (done ∷ done ∷ done ∷ figure 14 ∷ figure 0 ∷ [])
-    -- slopes over words, whole (10, 0), lives (9, 1), (8, 0) and (5, 0): exactly 3 is (360, 40), exactly 2 is (490, 10)
-    ∷ (done ∷ done ∷ done ∷ slope 360 40 ∷ slope 490 10 ∷ [])
+    -- slopes over words, whole (10, 0), lives (9, 1), (8, 0) and (5, 0): exactly 3 is (360, 40), exactly 2 is (490, 10); the
+    -- row (10, −10), (140, −40), (490, 10), (360, 40), in whose rates 2^64 stands for nothing
+    ∷ (done ∷ done ∷ done ∷ slope 360 40 ∷ slope 490 10 ∷ row (map pos (10 ∷ (2 ^ 64 - 10) ∷ 140 ∷ (2 ^ 64 - 40) ∷ 490 ∷ 10 ∷ 360 ∷ 40 ∷ [])) ∷ [])
     -- words, whole and both lives 2^32: exactly 2 is 0
     ∷ (done ∷ done ∷ figure 0 ∷ [])
     -- residues, whole one, lives 2^30 and 2: exactly 2 is 1

@@ -23,9 +23,14 @@ pub fn kinds_are_as_defined<R: Ring>()
     ensures slopes { (⟦<Dual<R> as Ring>⟧.ops ≡ dual_ops R.Ring.ops)
         × ((x : Dual R.Plain) → ⟦<Dual<R> as Ring>⟧.figure x ≡ dual (R.Ring.figure x.value) (R.Ring.figure x.rate))
         × ((x : Dual R) → ⟦<Dual<R> as Ring>⟧.plain x ≡ dual (R.Ring.plain x.value) (R.Ring.plain x.rate)) }
-{}
+{
+    // In a clause a number has no width: these are the plain forms' types.
+    let _word: <Word as Ring>::Plain = 0u64;
+    let _residue: <Residue as Ring>::Plain = 0u32;
+    let _scenarios: <Scenarios as Ring>::Plain = 0u64;
+}
 
-/// Each kind that packs goes into a record with this number, in so many bits, as this number.
+/// Of each kind that packs: its number in a record, how many bits its figures have there, and the number that a figure is there.
 pub fn kinds_pack_as_defined<R: Packable>()
     ensures words { (⟦<Word as Packable>⟧.KIND ≡ 1)
         × (⟦<Word as Packable>⟧.WIDTH ≡ 64)

@@ -102,7 +102,7 @@ fn ask<F: Packable>(
 where
     F::Plain: Typed,
 {
-    if let Some(request) = request(heap, words)? {
+    if let Some(request) = requested(heap, words)? {
         return outcome_text(heap, perform(roster, request));
     }
     let text = match words {
@@ -124,7 +124,7 @@ where
 }
 
 /// The call of a roster that words make; none where they make none.
-fn request<F: Packable>(
+fn requested<F: Packable>(
     heap: Global,
     words: &[&[u8]],
 ) -> Result<Option<Request<F, F::Plain>>, Unanswered>

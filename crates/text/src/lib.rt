@@ -12,7 +12,7 @@ mod words;
 pub use answers::{done, filled, outcome_text, table_text};
 pub use bytes::{Hex, echo_words, fields_text, hex_bytes};
 pub use numbers::{short_number, short_numbers, size};
-pub use theorems::{answers_are_as_printed, plain_forms_are_as_typed};
+pub use theorems::{bytes_and_refusals_are_as_defined, plain_forms_are_as_defined};
 pub use typed::Typed;
 pub use unanswered::{Refusal, Unanswered};
 pub use words::Lines;
