@@ -100,7 +100,7 @@ listed =
     -- scenarios 12, 10 and 6 with whole one: exactly 2 is 14, exactly 1 is 0
     ∷ (done ∷ done ∷ done ∷ figure 14 ∷ figure 0 ∷ [])
     -- slopes over words, whole (10, 0), lives (9, 1), (8, 0) and (5, 0): exactly 3 is (360, 40), exactly 2 is (490, 10); the
-    -- row (10, −10), (140, −40), (490, 10), (360, 40), in whose rates 2^64 stands for nothing
+    -- row (10, −10), (140, −40), (490, 10), (360, 40), whose negative rates are words too
     ∷ (done ∷ done ∷ done ∷ slope 360 40 ∷ slope 490 10 ∷ row (map pos (10 ∷ (2 ^ 64 - 10) ∷ 140 ∷ (2 ^ 64 - 40) ∷ 490 ∷ 10 ∷ 360 ∷ 40 ∷ [])) ∷ [])
     -- words, whole and both lives 2^32: exactly 2 is 0
     ∷ (done ∷ done ∷ figure 0 ∷ [])
