@@ -1,6 +1,9 @@
 //! Commands to a roster, from `open` to `close` or the end of the input.
-ghost use Rattle.std.specs.Prelude.{◌≤◌};
+ghost use Rattle.std.specs.Prelude.{◌≡◌, ◌≤◌, Some, None, replicate, IfErr, IfOk};
+ghost use Rattle.std.specs.Option.{option_map};
 ghost use Rattle.text.specs.Reading.{left};
+ghost use Rattle.text.specs.Text.{number_within};
+ghost use Rattle.text.specs.Understood.{FailsOnlyWhere};
 
 use crate::commands::obey;
 use crate::console::Console;
@@ -157,7 +160,11 @@ where
     Ok(Some(request))
 }
 
-fn read_short(word: &[u8]) -> Result<u32, Unanswered> {
+/// The 32-bit number that a word writes.
+fn read_short(word: &[u8]) -> Result<u32, Unanswered>
+    ensures read { IfOk result (λ n. number_within 4294967295 word.now ≡ Some n) }
+    ensures unread { IfErr result (λ e. (e ≡ Unanswered.NotUnderstood) × (number_within 4294967295 word.now ≡ None)) }
+{
     short_number(word).ok_or(NotUnderstood)
 }
 
@@ -165,6 +172,8 @@ fn read_short(word: &[u8]) -> Result<u32, Unanswered> {
 fn read_figure<F: Packable>(word: &[u8]) -> Result<F, Unanswered>
 where
     F::Plain: Typed,
+    ensures read { IfOk result (λ x. option_map F.Ring.figure (F.Plain.reads word.now) ≡ Some x) }
+    ensures unread { IfErr result (λ e. (e ≡ Unanswered.NotUnderstood) × (F.Plain.reads word.now ≡ None)) }
 {
     let figure = F::Plain::read(word).ok_or(NotUnderstood)?;
     Ok(F::from_plain(figure))
@@ -174,6 +183,8 @@ where
 fn zeros<F: Packable>(heap: Global, entries: &[u8]) -> Result<Vec<F::Plain>, Unanswered>
 where
     F::Plain: Typed,
+    ensures read { IfOk result (λ table. option_map (λ n. replicate n (F.Ring.plain F.Ring.ops.zero)) (number_within 1000 entries.now) ≡ Some table.items) }
+    ensures unread { IfErr result (FailsOnlyWhere (number_within 1000 entries.now ≡ None)) }
 {
     let entries = size(entries).ok_or(NotUnderstood)?;
     Ok(filled(heap, F::zero().to_plain(), entries)?)
