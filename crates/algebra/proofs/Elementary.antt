@@ -35,6 +35,21 @@ module _ {F : Type 0} {o : Ops F} (L : Laws o) where
       let e : c ≡ c % 2 + 2 * (c / 2) = omega arith in
       ap (λ n. multiple o n x) e ∙ multiple_plus (c % 2) (2 * (c / 2)) x ∙ ap (o.plus (multiple o (c % 2) x)) (multiple_double (c / 2) x)
 
+  -- A round of doubling and adding: what is done, and the copies that are left.
+  pub doubling_round : (c : ℕ) (s x s' x' : F) → s' ≡ o.plus s (multiple o (c % 2) x) → x' ≡ o.plus x x → o.plus s' (multiple o (c / 2) x') ≡ o.plus s (multiple o c x)
+  doubling_round c s x s' x' e f = rw (e, f, multiple_half c x) (L.plus_assoc s (multiple o (c % 2) x) (multiple o (c / 2) (o.plus x x)))
+
+  -- A figure that is its own negative counts where its copies are an odd number.
+  module _ (x : F) (own : o.plus x x ≡ o.zero) where
+    pairs_vanish : (c : ℕ) → multiple o c x ≡ multiple o (c % 2) x
+    pairs_vanish c = multiple_half c x ∙ ap (λ y. o.plus (multiple o (c % 2) x) y) (ap (multiple o (c / 2)) own ∙ multiple_of_zero (c / 2)) ∙ L.plus_zero _
+
+    pub multiple_odd : (c : ℕ) → c % 2 ≡ 1 → multiple o c x ≡ x
+    multiple_odd c odd = pairs_vanish c ∙ ap (λ r. multiple o r x) odd ∙ L.plus_zero x
+
+    pub multiple_even : (c : ℕ) → c % 2 ≡ 0 → multiple o c x ≡ o.zero
+    multiple_even c even = pairs_vanish c ∙ ap (λ r. multiple o r x) even
+
   -- The r figures that are chosen stand among the lives as those alive.
   abbrev chosen : List F → List (Life F)
   chosen ps = map (λ p. record { alive = p; dead = o.one }) ps

@@ -1,9 +1,11 @@
 -- A proof, nothing to believe: dual numbers over a ring keep the laws.
-use Rattle.std.specs.Prelude.{◌≡◌, [], ◌∷◌}
-use Rattle.std.proofs.Common.{ap₂}
+use Rattle.std.specs.Prelude.{◌≡◌, ℕ, zero, suc, [], ◌∷◌, refl}
+use Rattle.std.proofs.Common.{ap, ap₂}
 use Rattle.algebra.specs.Ring.{Ops, Laws}
+use Rattle.algebra.specs.Sums.{multiple}
 use Rattle.algebra.proofs.Solver.{ring, made}
 use Rattle.figures.specs.Duals.{ops, dual}
+use Rattle.figures.specs.declared.kinds.Dual.{Dual}
 
 module _ {F : Type 0} {o : Ops F} (L : Laws o) where
   -- The rates, where the law is more than the same law of the parts.
@@ -34,3 +36,8 @@ module _ {F : Type 0} {o : Ops F} (L : Laws o) where
     times_one = λ x. ap₂ dual (L.times_one _) (rate_one x.value x.rate);
     times_plus = λ x y z. ap₂ dual (L.times_plus _ _ _) (rate_plus x.value x.rate y.value y.rate z.value z.rate);
   }
+
+-- A multiple goes part by part.
+pub multiple_parts : {F : Type 0} (o : Ops F) (c : ℕ) (x : Dual F) → multiple (ops o) c x ≡ dual (multiple o c x.value) (multiple o c x.rate)
+multiple_parts o zero x = refl
+multiple_parts o (suc c) x = ap ((ops o).plus x) (multiple_parts o c x)

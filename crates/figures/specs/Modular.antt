@@ -1,9 +1,14 @@
 -- A proof, nothing to believe: the laws of arithmetic modulo m, once for every modulus and every type that holds such numbers.
-use Rattle.std.specs.Prelude.{◌≡◌, ℕ, ◌+◌, ◌-◌, ◌*◌, ◌%◌, ◌<◌}
+use Rattle.std.specs.Prelude.{◌≡◌, ℕ, zero, suc, ◌+◌, ◌-◌, ◌*◌, ◌%◌, ◌^◌, ◌<◌, refl}
 use Rattle.std.proofs.Common.{sym, ap, ap₂, ◌∙◌, add_comm, add_assoc, add-zero, mul_comm, mul_assoc, mul-add, mod-eq_of_lt, mul-one, arith}
 use Rattle.std.proofs.lemmas.Nat.{mul-mod_second}
-use Rattle.std.proofs.Math.Nat.{mod_self, mod-add-mod, add-mod-mod}
+use Rattle.std.proofs.Math.Nat.{mod_self, mod-add-mod, add-mod-mod, suc-mul, zero-mul, zero-mod}
 use Rattle.algebra.specs.Ring.{Ops, Laws}
+use Rattle.algebra.specs.Sums.{multiple}
+use Rattle.figures.specs.Words as words
+use Rattle.figures.specs.Residues as residues
+use Rattle.figures.specs.Residues.{modulus}
+use Rattle.figures.specs.Same.{same_word, same_residue}
 
 -- What makes `o` the arithmetic modulo m: a figure is told by its number, which lies below m, and the operations work on the numbers.
 pub record Modular {F : Type 0} (m : ℕ) (number : F → ℕ) (o : Ops F) : Type 0 where
@@ -21,6 +26,13 @@ module _ {F : Type 0} (m : ℕ) (number : F → ℕ) (o : Ops F) (M : Modular m 
 
   times_mod : (x y z : F) → number (o.times x (o.times y z)) ≡ number x * (number y * number z) % m
   times_mod x y z = M.times_is _ _ ∙ ap (λ n. number x * n % m) (M.times_is y z) ∙ mul-mod_second (number x) (number y * number z) m
+
+  -- A multiple is one product of numbers.
+  pub multiple_mod : (c : ℕ) (x : F) → number (multiple o c x) ≡ c * number x % m
+  multiple_mod zero x = M.zero_is ∙ sym (ap (λ n. n % m) (zero-mul (number x)) ∙ zero-mod m)
+  multiple_mod (suc c) x =
+      M.plus_is x (multiple o c x) ∙ ap (λ n. (number x + n) % m) (multiple_mod c x) ∙ add-mod-mod (number x) (c * number x) m
+      ∙ ap (λ n. n % m) (add_comm (number x) (c * number x) ∙ sym (suc-mul c (number x)))
 
   pub modular_laws : Laws o
   modular_laws = record {
@@ -42,3 +54,26 @@ module _ {F : Type 0} (m : ℕ) (number : F → ℕ) (o : Ops F) (M : Modular m 
     where
       whole : (x : F) → number x + (m - number x) ≡ m
       whole x = let h : number x < m = M.below x in omega arith
+
+-- The two kinds that are of this sort.
+pub word_modular : Modular (2 ^ 64) (λ x. x.number) words.ops
+word_modular = record {
+  same = same_word;
+  below = λ x. x.fits;
+  zero_is = refl;
+  one_is = refl;
+  plus_is = λ x y. refl;
+  minus_is = λ x. refl;
+  times_is = λ x y. refl;
+}
+
+pub residue_modular : Modular modulus (λ x. x.number) residues.ops
+residue_modular = record {
+  same = same_residue;
+  below = λ x. x.below;
+  zero_is = refl;
+  one_is = refl;
+  plus_is = λ x y. refl;
+  minus_is = λ x. refl;
+  times_is = λ x y. refl;
+}

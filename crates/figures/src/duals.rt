@@ -49,10 +49,25 @@ impl<R: Ring> Ring for Dual<R> {
     }
 
     fn mul(self, other: Dual<R>) -> Dual<R> {
-        let rate = self.value.mul(other.rate).add(self.rate.mul(other.value));
         Dual {
             value: self.value.mul(other.value),
-            rate,
+            rate: R::sum_of_products(self.value, other.rate, self.rate, other.value),
+        }
+    }
+
+    fn multiple(self, times: u64) -> Dual<R> {
+        Dual {
+            value: self.value.multiple(times),
+            rate: self.rate.multiple(times),
+        }
+    }
+
+    fn sum_of_products(a: Dual<R>, b: Dual<R>, c: Dual<R>, d: Dual<R>) -> Dual<R> {
+        let first = R::sum_of_products(a.value, b.rate, a.rate, b.value);
+        let second = R::sum_of_products(c.value, d.rate, c.rate, d.value);
+        Dual {
+            value: R::sum_of_products(a.value, b.value, c.value, d.value),
+            rate: first.add(second),
         }
     }
 

@@ -3,6 +3,7 @@
 
 ghost use Rattle.std.specs.Prelude.{◌≡◌, ℕ};
 ghost use Rattle.algebra.specs.Ring.{Ops, Laws};
+ghost use Rattle.algebra.specs.Sums.{multiple};
 ghost use Rattle.figures.specs.Packs.{Admitted};
 
 mod duals;
@@ -48,6 +49,31 @@ pub trait Ring: Copy {
 
     fn to_plain(self) -> Self::Plain
         ensures { result ≡ plain self };
+
+    // A kind may do the next two in fewer steps; it need not.
+    /// The sum of so many copies of a figure; by doubling and adding, in at most 64 rounds.
+    fn multiple(self, times: u64) -> Self
+        ensures { result ≡ multiple ops times self }
+    {
+        let mut left = times;
+        let mut doubled = self;
+        let mut sum = Self::zero();
+        while left > 0 {
+            if left % 2 == 1 {
+                sum = sum.add(doubled);
+            }
+            doubled = doubled.add(doubled);
+            left /= 2;
+        }
+        sum
+    }
+
+    /// a · b + c · d.
+    fn sum_of_products(a: Self, b: Self, c: Self, d: Self) -> Self
+        ensures { result ≡ ops.plus (ops.times a b) (ops.times c d) }
+    {
+        a.mul(b).add(c.mul(d))
+    }
 
     // What each kind owes, and all that generic code may use of the arithmetic.
     ghost laws: { Laws ops };

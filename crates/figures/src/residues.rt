@@ -1,7 +1,6 @@
 //! Residues, the check figures: arithmetic modulo the prime 2^31 - 1.
 ghost use Rattle.figures.specs.Residues.{residue, ops as residue_ops, modulus};
-ghost use Rattle.std.specs.Prelude.{refl};
-ghost use Rattle.figures.specs.Modular.{modular_laws};
+ghost use Rattle.figures.specs.Modular.{modular_laws, residue_modular};
 ghost use Rattle.figures.specs.Same.{same_residue};
 ghost use Rattle.std.proofs.Common.{mod-eq_of_lt, rules};
 
@@ -20,15 +19,7 @@ impl Ring for Residue {
 
     ghost plain = { λ x. x.number };
 
-    ghost laws = { modular_laws modulus (λ x. x.number) residue_ops (record {
-      same = same_residue;
-      below = λ x. x.below;
-      zero_is = refl;
-      one_is = refl;
-      plus_is = λ x y. refl;
-      minus_is = λ x. refl;
-      times_is = λ x y. refl;
-    }) };
+    ghost laws = { modular_laws modulus (λ x. x.number) residue_ops residue_modular };
 
     ghost back = { λ x. same_residue _ _ (mod-eq_of_lt x.below) };
 
@@ -56,6 +47,22 @@ impl Ring for Residue {
         let product = self.number as u64 * other.number as u64;
         Residue {
             number: (product % MODULUS as u64) as u32,
+        }
+    }
+
+    fn multiple(self, times: u64) -> Residue {
+        // Reduced first, since the product would not fit.
+        let product = times % MODULUS as u64 * self.number as u64;
+        Residue {
+            number: (product % MODULUS as u64) as u32,
+        }
+    }
+
+    // The sum of two products of residues fits in 63 bits.
+    fn sum_of_products(a: Residue, b: Residue, c: Residue, d: Residue) -> Residue {
+        let sum = a.number as u64 * b.number as u64 + c.number as u64 * d.number as u64;
+        Residue {
+            number: (sum % MODULUS as u64) as u32,
         }
     }
 

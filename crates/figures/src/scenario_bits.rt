@@ -1,9 +1,7 @@
 //! Scenarios: 64 truth values side by side. Sum is exclusive-or, product is and.
 ghost use Rattle.figures.specs.ScenarioBits.{scenarios, ops as scenario_ops};
-ghost use Rattle.std.proofs.Common.{◌∙◌, mod-eq_of_lt, rules};
-ghost use Rattle.std.proofs.lemmas.Nat.{and_assoc, and_comm, and_mask, xor_comm};
-ghost use Rattle.std.specs.Int.Bits.{xor_assoc, xor_self, xor_zero_r};
-ghost use Rattle.figures.specs.Bits.{and_xor};
+ghost use Rattle.std.proofs.Common.{mod-eq_of_lt, rules};
+ghost use Rattle.figures.specs.Bits.{scenario_laws};
 ghost use Rattle.figures.specs.Same.{same_scenarios};
 
 use crate::kinds::Scenarios;
@@ -18,16 +16,7 @@ impl Ring for Scenarios {
 
     ghost plain = { λ x. x.bits };
 
-    ghost laws = { record {
-      plus_comm = λ x y. same_scenarios _ _ (xor_comm x.bits y.bits);
-      plus_assoc = λ x y z. same_scenarios _ _ (xor_assoc x.bits y.bits z.bits);
-      plus_zero = λ x. same_scenarios _ _ (xor_zero_r x.bits);
-      plus_minus = λ x. same_scenarios _ _ (xor_self x.bits);
-      times_comm = λ x y. same_scenarios _ _ (and_comm x.bits y.bits);
-      times_assoc = λ x y z. same_scenarios _ _ (and_assoc z.bits x.bits y.bits);
-      times_one = λ x. same_scenarios _ _ (and_mask x.bits 64 ∙ mod-eq_of_lt x.fits);
-      times_plus = λ x y z. same_scenarios _ _ (and_xor x.bits y.bits z.bits);
-    } };
+    ghost laws = { scenario_laws };
 
     ghost back = { λ x. same_scenarios _ _ (mod-eq_of_lt x.fits) };
 
@@ -52,6 +41,15 @@ impl Ring for Scenarios {
     fn mul(self, other: Scenarios) -> Scenarios {
         Scenarios {
             bits: self.bits & other.bits,
+        }
+    }
+
+    // Two copies cancel.
+    fn multiple(self, times: u64) -> Scenarios {
+        if times % 2 == 1 {
+            self
+        } else {
+            Scenarios::zero()
         }
     }
 

@@ -1,7 +1,7 @@
 //! Words: sum, negative and product modulo 2^64.
 ghost use Rattle.figures.specs.Words.{word, ops as word_ops};
-ghost use Rattle.std.specs.Prelude.{◌^◌, refl};
-ghost use Rattle.figures.specs.Modular.{modular_laws};
+ghost use Rattle.std.specs.Prelude.{◌^◌};
+ghost use Rattle.figures.specs.Modular.{modular_laws, word_modular};
 ghost use Rattle.figures.specs.Same.{same_word};
 ghost use Rattle.std.proofs.Common.{mod-eq_of_lt, rules};
 
@@ -17,15 +17,7 @@ impl Ring for Word {
 
     ghost plain = { λ x. x.number };
 
-    ghost laws = { modular_laws (2 ^ 64) (λ x. x.number) word_ops (record {
-      same = same_word;
-      below = λ x. x.fits;
-      zero_is = refl;
-      one_is = refl;
-      plus_is = λ x y. refl;
-      minus_is = λ x. refl;
-      times_is = λ x y. refl;
-    }) };
+    ghost laws = { modular_laws (2 ^ 64) (λ x. x.number) word_ops word_modular };
 
     ghost back = { λ x. same_word _ _ (mod-eq_of_lt x.fits) };
 
@@ -52,6 +44,12 @@ impl Ring for Word {
     fn mul(self, other: Word) -> Word {
         Word {
             number: self.number.wrapping_mul(other.number),
+        }
+    }
+
+    fn multiple(self, times: u64) -> Word {
+        Word {
+            number: times.wrapping_mul(self.number),
         }
     }
 
