@@ -1,5 +1,5 @@
 -- The calls' links, from what was found and what was done.
-use Rattle.std.proofs.Common.{◌≡◌, ℕ, ◌-◌, ◌<◌, true, false, cond, eqb, ◌≢◌, List, ◌++◌, length, take, replicate, Some, None, Option, sym, refl, ap, ◌∙◌, subst, ap₂, arith}
+use Rattle.std.proofs.Common.{◌≡◌, ℕ, ◌-◌, ◌<◌, true, false, cond, eqb, ◌≢◌, List, ◌++◌, length, take, replicate, Option, sym, refl, ap, ◌∙◌, subst, ap₂, arith}
 use borrow.Rule.Slice.PartMut.{put_mid}
 use Rattle.std.proofs.lemmas.Bool.{eq-eqb, ne_eqb, cond-true, cond-false}
 use Rattle.std.proofs.Math.Logic.{∥∥₁_map}
@@ -7,10 +7,7 @@ use Rattle.algebra.specs.Ring.{Ops, Laws}
 use Rattle.roster.specs.Ledger.{Ledger, capacity_of, Call, Answer, Join, Leave, Clear, Done, Refused, present, place_of, answer, granted, is_refused}
 use Rattle.roster.specs.Cells.{Holds, OfLedger, HoldSome, Met, zero_cell}
 use Rattle.roster.specs.Passes.{joined}
-use Rattle.roster.specs.Refusals.{done_or}
-use Rattle.roster.specs.declared.refusals.Refusal.TheVariants.{Absent}
-use Rattle.std.specs.Option.{is_some, ok_or}
-use Rattle.std.specs.Result.{IfOk}
+use Rattle.std.specs.Option.{is_some}
 use Rattle.roster.specs.declared.cells.Cell.{Cell}
 use Rattle.roster.proofs.Laying.{length_held}
 use Rattle.roster.proofs.Places.{present_is}
@@ -36,14 +33,9 @@ module _ {F P : Type 0} (o : Ops F) (plain : F → P) where
   still became before after work some = ∥∥₁_map some (λ s. (s.0, (became s.1.0, work s.0 s.1.0 s.1.1)))
 
   -- Leaving and changing are answered alike, by whether the number has a place.
-  leaves : (n : ℕ) → n ≢ 0 → (l : Ledger F) (p : Option ℕ) → p ≡ place_of n l.lives → cond (is_some p) Done (Refused 3) ≡ answer o plain l (Leave n)
+  pub leaves : (n : ℕ) → n ≢ 0 → (l : Ledger F) (p : Option ℕ) → p ≡ place_of n l.lives → cond (is_some p) Done (Refused 3) ≡ answer o plain l (Leave n)
   leaves n some l p found =
       ap (λ b. cond b Done (Refused 3)) (ap is_some found ∙ sym (present_is n l.lives)) ∙ sym (cond-false (eqb n 0) (Refused 1) (cond (present n l.lives) Done (Refused 3)) (ne_eqb n 0 some))
-
-  pub located : (n : ℕ) → n ≢ 0 → (cells : List (Cell P)) (p : Option ℕ) → OfLedger o plain cells (λ l. p ≡ place_of n l.lives)
-      → OfLedger o plain cells (λ l. (done_or (ok_or p Absent) ≡ answer o plain l (Leave n)) × IfOk (ok_or p Absent) (λ k. place_of n l.lives ≡ Some k))
-  located n some cells None found size l held = (leaves n some l None (found size l held), tt)
-  located n some cells (Some k) found size l held = (leaves n some l (Some k) (found size l held), sym (found size l held))
 
   -- What joining with a number that nobody has is answered.
   abbrev if_room : Ledger F → Answer F P

@@ -1,12 +1,13 @@
 -- Reading and writing cells that are laid out from a ledger.
-use Rattle.std.proofs.Common.{◌≡◌, ℕ, zero, suc, ◌+◌, ◌-◌, ◌<◌, ◌≤◌, min, not, cond, eqb, ltb, ◌≢◌, List, [], ◌∷◌, map, length, get_or, take, drop, set, sym, refl, ap, ◌∙◌, add-one, arith, length-drop}
-use Rattle.std.specs.List.{range_with_len, prefix_len, AllByRecursion}
-use Rattle.std.proofs.lemmas.List.{get_or_past, get_or_default, get_or-map, get_or-take, get_or-drop, length-take, same_lists, length-map}
-use Rattle.std.proofs.lemmas.List.Sums.{prefix_len_is}
-use Rattle.std.proofs.lemmas.Bool.{eq-eqb, ne_eqb, lt-ltb, le-ltb, ltb-true, ltb-false, cond-true, cond-false, cond_both}
+use Rattle.std.proofs.Common.{◌≡◌, ℕ, zero, suc, ◌+◌, ◌<◌, ◌≤◌, min, cond, ltb, ◌≢◌, ◌⊎◌, inl, inr, List, [], ◌∷◌, map, length, get_or, take, drop, set, sym, refl, ap, ◌∙◌, add-one, arith, length-drop}
+use Rattle.std.specs.List.{range_with_len, AllByRecursion}
+use Rattle.std.proofs.lemmas.List.{get_or_past, get_or-take, get_or-drop, length-take, length-map}
+use Rattle.std.proofs.lemmas.Bool.{lt-ltb, le-ltb, ltb-true, ltb-false, cond-true, cond-false, cond_both}
+use Rattle.std.proofs.Math.Arith.{lt_of_le-ne}
+use Rattle.std.proofs.Math.Nat.{eq-or-lt_of_le}
 use Rattle.algebra.specs.Ring.{Ops}
 use Rattle.algebra.proofs.Rows.{length_counting, get_or_counting, map_counting_same, set_map_counting}
-use Rattle.roster.specs.Ledger.{Member, Ledger, numbers}
+use Rattle.roster.specs.Ledger.{Member, Ledger, numbers, capacity_of}
 use Rattle.roster.specs.Cells.{cell_at, Holds}
 use Rattle.roster.specs.declared.cells.Cell.{Cell}
 
@@ -19,6 +20,10 @@ number_some (m ∷ ms) ok (suc k) h = rw add-one (rw add-one at (number_some ms 
 number_none : {F : Type 0} (lives : List (Member F)) (k : ℕ) → length lives ≤ k → get_or (0 ∷ numbers lives) (k + 1) 0 ≡ 0
 number_none lives k h = rw add-one (get_or_past (numbers lives) k 0 (rw length-map h))
 
+-- How many cells there are for lives.
+pub length_rooms : {X : Type 0} (cells rooms : List X) → rooms ≡ take 64 (drop 1 cells) → length rooms ≡ capacity_of (length cells)
+length_rooms cells rooms are = ap length are ∙ length-take 64 (drop 1 cells) ∙ ap (min 64) (length-drop 1 cells)
+
 module _ {F P : Type 0} {o : Ops F} {plain : F → P} {size : ℕ} {l : Ledger F} {cells : List (Cell P)} (held : Holds o plain size l cells) where
   pub length_held : length cells ≡ size
   length_held = length_counting (cell_at o plain l.whole l.lives) size cells held.are
@@ -27,43 +32,36 @@ module _ {F P : Type 0} {o : Ops F} {plain : F → P} {size : ℕ} {l : Ledger F
   pub get_or_held : (k : ℕ) (e : Cell P) → k < size → get_or cells k e ≡ cell_at o plain l.whole l.lives k
   get_or_held = get_or_counting (cell_at o plain l.whole l.lives) size cells held.are
 
-  lives_held : length l.lives ≤ 64
-  lives_held = omega (arith, held.few, held.room)
+  -- The cells that lives can be in.
+  module _ (rooms : List (Cell P)) (are : rooms ≡ take 64 (drop 1 cells)) where
+    rooms_many : length rooms ≡ l.capacity
+    rooms_many = length_rooms cells rooms are ∙ ap capacity_of length_held ∙ sym held.room
 
-  -- The lives leave room for cell 0, where there is any life.
-  lives_within : 0 < length l.lives → length l.lives < size
-  lives_within h = omega (arith, held.few, held.room)
+    -- None is left.
+    pub rooms_end : (k : ℕ) → length rooms ≤ k → k ≤ length l.lives → k ≡ length l.lives
+    rooms_end k h so_far = omega (arith, rooms_many, held.few)
 
-  -- The numbers that stand in cells 1, 2, …, n.
-  number_read : (n k : ℕ) (e : Cell P) → k < n → k + 1 < size → (get_or (take n (drop 1 cells)) k e).number ≡ get_or (0 ∷ numbers l.lives) (k + 1) 0
-  number_read n k e within inside =
-      let same : 1 + k ≡ k + 1 = omega arith in
-      ap (λ cell. cell.number) (get_or-take n (drop 1 cells) k e within ∙ get_or-drop 1 cells k e ∙ ap (λ i. get_or cells i e) same ∙ get_or_held (k + 1) e inside)
+    -- One that is read, where those before it have lives.
+    module _ (k : ℕ) (x : Cell P) (within : k < length rooms) (read : x ≡ get_or rooms k x) (so_far : k ≤ length l.lives) where
+      number_read : x.number ≡ get_or (0 ∷ numbers l.lives) (k + 1) 0
+      number_read =
+          let same : 1 + k ≡ k + 1 = omega arith in
+          ap (λ cell. cell.number)
+          (read ∙ ap (λ cs. get_or cs k x) are ∙ get_or-take 64 (drop 1 cells) k x (omega (arith, rooms_many, held.room)) ∙ get_or-drop 1 cells k x
+          ∙ ap (λ i. get_or cells i x) same ∙ get_or_held (k + 1) x (omega (arith, rooms_many, held.room)))
 
-  -- The count stops at the number of lives, at which there is no cell, or one without a number.
-  pub counted : prefix_len (λ cell. not (eqb cell.number 0)) (take 64 (drop 1 cells)) ≡ length l.lives
-  counted =
-      let room : length (take 64 (drop 1 cells)) ≡ min 64 (length cells - 1) = length-take 64 (drop 1 cells) ∙ ap (min 64) (length-drop 1 cells) in
-      let e : Cell P = cell_at o plain l.whole l.lives 0 in
-      prefix_len_is (λ cell. not (eqb cell.number 0)) (take 64 (drop 1 cells)) (length l.lives) e (omega (arith, held.few, held.room, length_held))
-      (λ k h. ap not (ne_eqb (get_or (take 64 (drop 1 cells)) k e).number 0 (λ z.
-      number_some l.lives held.numbered k h (sym (number_read 64 k e (omega (arith, lives_held)) (omega (arith, lives_within (omega arith)))) ∙ z))))
-      (λ h. ap not (eq-eqb (get_or (take 64 (drop 1 cells)) (length l.lives) e).number 0
-      (number_read 64 (length l.lives) e (omega arith) (omega (arith, length_held)) ∙ number_none l.lives (length l.lives) (omega arith))))
+      pub number_is : x.number ≡ get_or (numbers l.lives) k 0
+      number_is = number_read ∙ ap (λ i. get_or (0 ∷ numbers l.lives) i 0) (add-one k)
 
-  -- The numbers of the lives, in their cells.
-  pub numbers_held : map (λ cell. cell.number) (take (length l.lives) (drop 1 cells)) ≡ numbers l.lives
-  numbers_held =
-      let e : Cell P = cell_at o plain l.whole l.lives 0 in
-      let room : length (take (length l.lives) (drop 1 cells)) ≡ min (length l.lives) (length cells - 1) = length-take (length l.lives) (drop 1 cells) ∙ ap (min (length l.lives)) (length-drop 1 cells) in
-      let long : length (take (length l.lives) (drop 1 cells)) ≡ length l.lives = omega (arith, held.few, held.room, length_held) in
-      let cells_many = length-map (take (length l.lives) (drop 1 cells)) (λ (cell : Cell P). cell.number) in
-      let lives_many = length-map l.lives (λ (m : Member F). m.number) in
-      same_lists (map (λ cell. cell.number) (take (length l.lives) (drop 1 cells))) (numbers l.lives) (cells_many ∙ long ∙ sym lives_many)
-      (λ k d h.
-      get_or-map (λ cell. cell.number) (take (length l.lives) (drop 1 cells)) k e d (omega arith)
-      ∙ number_read (length l.lives) k e (omega arith) (omega (arith, lives_within (omega arith)))
-      ∙ ap (λ i. get_or (0 ∷ numbers l.lives) i 0) (add-one k) ∙ get_or_default (numbers l.lives) k 0 d (omega arith))
+      pub some_life : x.number ≢ 0 → k < length l.lives
+      some_life some = lt_of_le-ne so_far (λ end. some (number_read ∙ number_none l.lives k (omega (arith, end))))
+
+      pub no_life : x.number ≡ 0 → k ≡ length l.lives
+      no_life none = at (eq-or-lt_of_le so_far)
+        where
+          at : (k ≡ length l.lives) ⊎ (k < length l.lives) → k ≡ length l.lives
+          at (inl end) = end
+          at (inr more) = absurd (number_some l.lives held.numbered k more (sym number_read ∙ none))
 
 -- A pass under way: below r as f says, from r on as g says.
 abbrev pub up_to : {X : Type 0} → ℕ → (ℕ → X) → (ℕ → X) → ℕ → X

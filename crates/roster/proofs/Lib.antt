@@ -4,7 +4,6 @@ pub mod Gaps
 pub mod Holding
 pub mod Laying
 pub mod Places
-pub mod QuestionsMultiple
 pub mod QuestionsRead
 pub mod QuestionsSums
 pub mod QuestionsWays

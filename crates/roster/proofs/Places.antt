@@ -1,44 +1,36 @@
 -- Where a number stands among the lives.
-use Rattle.std.proofs.Common.{◌≡◌, ℕ, suc, ◌+◌, Bool, true, false, not, cond, ◌||◌, eqb, leb, ltb, ◌⊎◌, List, [], ◌∷◌, ◌++◌, map, length, Some, None, Option, sym, refl, ap, ◌∙◌, ap₂, inl, inr, one-add, arith}
-use lib.Dec.{leb-suc-suc}
-use Rattle.std.specs.List.{position, position_or_len}
-use Rattle.std.specs.Option.{option_map, is_some}
-use Rattle.std.proofs.lemmas.Bool.{lt-ltb, eqb-true, cases_Bool, cond-true, cond-false, or_left}
+use Rattle.std.proofs.Common.{◌≡◌, ℕ, zero, suc, ◌+◌, ◌<◌, Bool, true, false, cond, ◌||◌, eqb, ◌≢◌, ◌⊎◌, List, [], ◌∷◌, ◌++◌, length, get_or, take, Some, None, Option, sym, refl, ap, ◌∙◌, ap₂, inl, inr, add-one, arith}
+use Rattle.std.specs.Option.{option_or, is_some}
+use Rattle.std.proofs.lemmas.Bool.{eq-eqb, eqb-true, ne_eqb, cases_Bool, cond-true, cond-false, or_left}
 use Rattle.std.proofs.lemmas.Option.{none-some, same_Some}
 use Rattle.roster.specs.Ledger.{Member, numbers, present, further, place_of, without, changed}
-use Rattle.roster.specs.declared.cells.Cell.{Cell}
 
--- A first place q, if it is below a length.
-abbrev found_at : ℕ → ℕ → Option ℕ
-found_at q long = option_map (λ i. i + 1) (cond (ltb q long) (Some q) None)
-
-found_further : (q long : ℕ) → found_at (1 + q) (suc long) ≡ further (found_at q long)
-found_further q long = ap (λ b. option_map (λ i. i + 1) (cond b (Some (1 + q)) None)) (leb-suc-suc (1 + q) long ∙ ap (λ k. leb k long) (one-add q)) ∙ both (ltb q long)
+-- One life more to search in: the one at place i, counted from 0, with the number x.
+place_more : {F : Type 0} (n : ℕ) (lives : List (Member F)) (i x : ℕ) → i < length lives → x ≡ get_or (numbers lives) i 0
+    → place_of n (take (suc i) lives) ≡ option_or (place_of n (take i lives)) (cond (eqb x n) (Some (suc i)) None)
+place_more n [] i x h e = absurd (omega arith)
+place_more n (m ∷ ms) zero x h e = ap (λ y. cond (eqb y n) (Some 1) None) (sym e)
+place_more n (m ∷ ms) (suc i) x h e =
+    ap (λ p. cond (eqb m.number n) (Some 1) (further p)) (place_more n ms i x (omega arith) e)
+    ∙ both (eqb m.number n) (eqb x n) (place_of n (take i ms))
+    ∙ ap (λ k. option_or (cond (eqb m.number n) (Some 1) (further (place_of n (take i ms)))) (cond (eqb x n) (Some k) None)) (add-one (suc i))
   where
-    both : (b : Bool) → option_map (λ i. i + 1) (cond b (Some (1 + q)) None) ≡ further (option_map (λ i. i + 1) (cond b (Some q) None))
-    both true = let same : 1 + q + 1 ≡ q + 1 + 1 = omega arith in ap Some same
-    both false = refl
+    both : (t b : Bool) (p : Option ℕ) → cond t (Some 1) (further (option_or p (cond b (Some (suc i)) None))) ≡ option_or (cond t (Some 1) (further p)) (cond b (Some (suc i + 1)) None)
+    both true b p = refl
+    both false true None = refl
+    both false false None = refl
+    both false b (Some k) = refl
 
--- The place of a number among cells that have the lives' numbers.
-pub placed : {F P : Type 0} (n : ℕ) (cells : List (Cell P)) (lives : List (Member F)) → map (λ cell. cell.number) cells ≡ numbers lives
-    → option_map (λ i. i + 1) (position (λ cell. eqb cell.number n) cells) ≡ place_of n lives
-placed n [] [] same = refl
-placed n [] (m ∷ ms) same = cc
-placed n (c ∷ cs) [] same = cc
-placed {F} {P} n (c ∷ cs) (m ∷ ms) same = at (placed n cs ms (cc)) (cases_Bool (eqb m.number n))
-  where
-    q : ℕ
-    q = position_or_len (λ (cell : Cell P). eqb cell.number n) cs
+module _ {F : Type 0} (n : ℕ) (lives : List (Member F)) (i x : ℕ) (h : i < length lives) (is : x ≡ get_or (numbers lives) i 0) where
+  pub place_here : x ≡ n → place_of n (take (i + 1) lives) ≡ option_or (place_of n (take i lives)) (Some (i + 1))
+  place_here e = rw add-one (place_more n lives i x h is ∙ ap (option_or (place_of n (take i lives))) (cond-true (eqb x n) (Some (suc i)) None (eq-eqb x n e)))
 
-    head : c.number ≡ m.number
-    head = cc
-
-    here : (t : Bool) → eqb m.number n ≡ t → option_map (λ i. i + 1) (position (λ cell. eqb cell.number n) (c ∷ cs)) ≡ found_at (cond (not t) (1 + q) 0) (suc (length cs))
-    here t e = ap (λ t. found_at (cond (not t) (1 + q) 0) (suc (length cs))) (ap (λ k. eqb k n) head ∙ e)
-
-    at : found_at q (length cs) ≡ place_of n ms → (eqb m.number n ≡ true) ⊎ (eqb m.number n ≡ false) → option_map (λ i. i + 1) (position (λ cell. eqb cell.number n) (c ∷ cs)) ≡ place_of n (m ∷ ms)
-    at rest (inl t) = here true t ∙ ap (option_map (λ i. i + 1)) (cond-true (ltb 0 (suc (length cs))) (Some 0) None (lt-ltb 0 (suc (length cs)) (omega arith))) ∙ sym (cond-true (eqb m.number n) (Some 1) (further (place_of n ms)) t)
-    at rest (inr f) = here false f ∙ found_further q (length cs) ∙ ap further rest ∙ sym (cond-false (eqb m.number n) (Some 1) (further (place_of n ms)) f)
+  pub place_later : x ≢ n → place_of n (take (i + 1) lives) ≡ place_of n (take i lives)
+  place_later ne = rw add-one (place_more n lives i x h is ∙ ap (option_or (place_of n (take i lives))) (cond-false (eqb x n) (Some (suc i)) None (ne_eqb x n ne)) ∙ or_none (place_of n (take i lives)))
+    where
+      or_none : (p : Option ℕ) → option_or p None ≡ p
+      or_none None = refl
+      or_none (Some k) = refl
 
 -- The numbers that are present are those that have a place.
 pub present_is : {F : Type 0} (n : ℕ) (lives : List (Member F)) → present n lives ≡ is_some (place_of n lives)

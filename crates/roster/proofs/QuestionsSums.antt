@@ -24,14 +24,14 @@ module _ {F : Type 0} {o : Ops F} (L : Laws o) where
   signed_odd (suc (suc t)) x h = signed_odd t x (omega arith) ∙ twice (signed o t x)
 
   -- One summand more: the coefficient c, the kept sum b, and what the loop makes of them.
-  pub alternating_more : (d : F) (ps : List F) (j k t c : ℕ) (sum whole b m s p next : F)
+  pub alternating_more : (d : F) (ps : List F) (j k t c : ℕ) (sum whole b m s one next : F)
       → sum ≡ horner o d (summand o ps j k) t → whole ≡ d → b ≡ elementary o (k + t) ps → c ≡ ways j t
-      → m ≡ multiple o c b → s ≡ signed o t m → p ≡ o.times sum whole → next ≡ o.plus p s
+      → m ≡ multiple o c b → s ≡ signed o t m → one ≡ o.one → next ≡ o.plus (o.times sum whole) (o.times s one)
       → next ≡ horner o d (summand o ps j k) (t + 1)
-  alternating_more d ps j k t c sum whole b m s p next so_far is-d is_b is_c is_m is-s is-p is-next =
-      let product : p ≡ o.times (horner o d (summand o ps j k) t) d = is-p ∙ ap₂ o.times so_far is-d in
+  alternating_more d ps j k t c sum whole b m s one next so_far is-d is_b is_c is_m is-s is-one is-next =
+      let product : o.times sum whole ≡ o.times (horner o d (summand o ps j k) t) d = ap₂ o.times so_far is-d in
       let summed : s ≡ summand o ps j k t = is-s ∙ ap (signed o t) (is_m ∙ ap₂ (multiple o) is_c is_b) in
-      is-next ∙ ap₂ o.plus product summed ∙ sym (horner_more o d (summand o ps j k) t)
+      is-next ∙ ap₂ o.plus product (ap (o.times s) is-one ∙ L.times_one s ∙ summed) ∙ sym (horner_more o d (summand o ps j k) t)
 
   pub alternating_entry : (d : F) (ps : List F) (j k m : ℕ) → k + m ≡ length ps → horner o d (summand o ps j k) (m + 1) ≡ entry o d ps j k
   alternating_entry d ps j k m e = ap (horner o d (summand o ps j k)) (add-one m) ∙ sym (entry_horner L d ps j k m e)

@@ -6,7 +6,6 @@ ghost use Rattle.roster.specs.Cells.{Holds};
 ghost use Rattle.roster.specs.Passes.{joined, left, altered};
 
 use crate::cells::Cell;
-use crate::counting::count;
 use crate::writing::{close_gap, divide_out, exchange, multiply_in};
 use figures::Ring;
 
@@ -21,23 +20,21 @@ pub(crate) fn put_in<F: Ring>(cells: &mut [Cell<F::Plain>], n: usize, number: u3
     life.number = number;
 }
 
-/// The life at a place leaves.
-pub(crate) fn take_out<F: Ring>(cells: &mut [Cell<F::Plain>], place: usize)
-    requires { place < length cells.old }
-    ensures { (size : ℕ) (l : Ledger F) (number : ℕ) → Holds F.Ring.ops F.Ring.plain size l cells.old → place_of number l.lives ≡ Some place → Holds F.Ring.ops F.Ring.plain size (left l number) cells.new }
+/// The life at a place among the n that there are leaves.
+pub(crate) fn take_out<F: Ring>(cells: &mut [Cell<F::Plain>], place: usize, n: usize)
+    requires { (place < length cells.old) × (n < length cells.old) }
+    ensures { (size : ℕ) (l : Ledger F) (number : ℕ) → Holds F.Ring.ops F.Ring.plain size l cells.old → n ≡ length l.lives → place_of number l.lives ≡ Some place → Holds F.Ring.ops F.Ring.plain size (left l number) cells.new }
 {
-    let n = count::<F>(cells);
     let out = F::from_plain(cells[place].figure);
     divide_out::<F>(&mut cells[..n + 1], out);
     close_gap::<F>(cells, place, n);
 }
 
-/// The life at a place has another figure.
-pub(crate) fn alter<F: Ring>(cells: &mut [Cell<F::Plain>], place: usize, figure: F)
-    requires { place < length cells.old }
-    ensures { (size : ℕ) (l : Ledger F) (number : ℕ) → Holds F.Ring.ops F.Ring.plain size l cells.old → place_of number l.lives ≡ Some place → Holds F.Ring.ops F.Ring.plain size (altered l number figure) cells.new }
+/// The life at a place among the n that there are has another figure.
+pub(crate) fn alter<F: Ring>(cells: &mut [Cell<F::Plain>], place: usize, n: usize, figure: F)
+    requires { (place < length cells.old) × (n < length cells.old) }
+    ensures { (size : ℕ) (l : Ledger F) (number : ℕ) → Holds F.Ring.ops F.Ring.plain size l cells.old → n ≡ length l.lives → place_of number l.lives ≡ Some place → Holds F.Ring.ops F.Ring.plain size (altered l number figure) cells.new }
 {
-    let n = count::<F>(cells);
     let out = F::from_plain(cells[place].figure);
     exchange::<F>(&mut cells[..n + 1], out, figure);
     cells[place].figure = figure.to_plain();

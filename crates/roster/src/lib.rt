@@ -5,7 +5,6 @@ mod cells;
 mod coefficients;
 mod counting;
 mod edits;
-mod multiples;
 mod questions;
 mod refusals;
 mod replays;

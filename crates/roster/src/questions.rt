@@ -8,8 +8,6 @@ ghost use Rattle.roster.specs.Refusals.{figure_or};
 
 use crate::cells::Cell;
 use crate::coefficients::coefficients;
-use crate::counting::count;
-use crate::multiples::multiple;
 use crate::refusals::Refusal;
 use crate::rosters::Roster;
 use figures::Ring;
@@ -43,38 +41,39 @@ fn alternating<F: Ring>(cells: &[Cell<F::Plain>], j: usize, k: usize, m: usize) 
     let ways = coefficients(j, m);
     let mut sum = F::zero();
     for (t, cell) in cells[k..=k + m].iter().enumerate() {
-        let kept = F::from_plain(cell.sum);
-        sum = sum.mul(whole).add(signed(t, multiple(ways[t], kept)));
+        let term = signed(t, F::from_plain(cell.sum).multiple(ways[t]));
+        // The term as a product, since a kind may add two of them in one step.
+        sum = F::sum_of_products(sum, whole, term, F::one());
     }
     sum
-}
-
-/// The alternating sum from place k on to the number of lives; zero where k is more than that.
-/// It is exactly k for j = k + 1, and at least k for j = k.
-fn tail<F: Ring>(cells: &[Cell<F::Plain>], j: usize, k: usize) -> F
-    requires { j ≤ k + 1 }
-    ensures { OfLedger F.Ring.ops F.Ring.plain cells.now (λ l. result ≡ entry F.Ring.ops l.whole (figures l.lives) j k) }
-{
-    let n = count::<F>(cells);
-    if k > n {
-        return F::zero();
-    }
-    // With no cells there is no whole to read; and no life, so that nobody alive is certain.
-    if cells.is_empty() {
-        return F::one();
-    }
-    alternating(cells, j, k, n - k)
 }
 
 /// Questions alter no cell.
 // Two methods, since each promises the answer to another of the ledger's calls.
 impl<F: Ring> Roster<'_, F> {
+    /// The alternating sum from place k on to the number of lives; zero where k is more than that.
+    /// It is exactly k for j = k + 1, and at least k for j = k.
+    fn tail(&self, j: usize, k: usize) -> F
+        requires { j ≤ k + 1 }
+        ensures { OfLedger F.Ring.ops F.Ring.plain self.now.cells.now (λ l. result ≡ entry F.Ring.ops l.whole (figures l.lives) j k) }
+    {
+        let n = self.lives();
+        if k > n {
+            return F::zero();
+        }
+        // With no cells there is no whole to read; and no life, so that nobody alive is certain.
+        if self.cells.is_empty() {
+            return F::one();
+        }
+        alternating(self.cells, j, k, n - k)
+    }
+
     /// Exactly k alive.
     pub fn exactly(&self, k: u32) -> Result<F, Refusal>
         ensures { Met F.Ring.ops F.Ring.plain (Exactly k) self.now.cells.now (figure_or result) self.now.cells.now }
     {
         let k = admitted(k)?;
-        Ok(tail(self.cells, k + 1, k))
+        Ok(self.tail(k + 1, k))
     }
 
     /// At least k alive.
@@ -82,6 +81,6 @@ impl<F: Ring> Roster<'_, F> {
         ensures { Met F.Ring.ops F.Ring.plain (AtLeast k) self.now.cells.now (figure_or result) self.now.cells.now }
     {
         let k = admitted(k)?;
-        Ok(tail(self.cells, k, k))
+        Ok(self.tail(k, k))
     }
 }

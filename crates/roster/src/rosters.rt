@@ -6,7 +6,7 @@ ghost use Rattle.roster.specs.Refusals.{done_or};
 ghost use Rattle.roster.specs.declared.refusals.Refusal.TheVariants.{OtherCells};
 
 use crate::cells::Cell;
-use crate::counting::{MOST, count};
+use crate::counting::MOST;
 use crate::edits::{alter, put_in, take_out};
 use crate::refusals::Refusal;
 use crate::slips::{Slip, Unclosed};
@@ -39,23 +39,19 @@ impl<'a, F: Ring> Roster<'a, F> {
         self.cells.len().saturating_sub(1).min(MOST)
     }
 
-    /// How many lives there are.
-    pub fn lives(&self) -> usize
-        ensures within { result ≤ capacity_of (length self.now.cells.now) }
-        ensures counted { OfLedger F.Ring.ops F.Ring.plain self.now.cells.now (λ l. result ≡ length l.lives) }
-    {
-        count::<F>(self.cells)
-    }
-
-    /// The place of a life that is to leave or to change.
-    fn locate(&self, number: u32) -> Result<usize, Refusal>
-        ensures within { IfOk result (λ k. k < length self.now.cells.now) }
-        ensures found { OfLedger F.Ring.ops F.Ring.plain self.now.cells.now (λ l. (done_or result ≡ answer F.Ring.ops F.Ring.plain l (Leave number)) × IfOk result (λ k. place_of number l.lives ≡ Some k)) }
+    /// The place of a life that is to leave or to change, and how many lives there are.
+    fn locate(&self, number: u32) -> Result<(usize, usize), Refusal>
+        ensures within { IfOk result (λ k. (k.0 < length self.now.cells.now) × (k.1 < length self.now.cells.now)) }
+        ensures found { OfLedger F.Ring.ops F.Ring.plain self.now.cells.now (λ l. (done_or result ≡ answer F.Ring.ops F.Ring.plain l (Leave number)) × IfOk result (λ k. (place_of number l.lives ≡ Some k.0) × (k.1 ≡ length l.lives))) }
     {
         if number == 0 {
             return Err(Refusal::ZeroNumber);
         }
-        self.find(number).ok_or(Refusal::Absent)
+        let found = self.search(number);
+        match found.place {
+            Some(place) => Ok((place, found.lives)),
+            None => Err(Refusal::Absent),
+        }
     }
 
     pub fn join(&mut self, number: u32, figure: F) -> Result<(), Refusal>
@@ -65,14 +61,14 @@ impl<'a, F: Ring> Roster<'a, F> {
         if number == 0 {
             return Err(Refusal::ZeroNumber);
         }
-        if self.find(number).is_some() {
+        let found = self.search(number);
+        if found.place.is_some() {
             return Err(Refusal::Present);
         }
-        let n = self.lives();
-        if n == self.capacity() {
+        if found.lives == self.capacity() {
             return Err(Refusal::Full);
         }
-        put_in::<F>(self.cells, n, number, figure);
+        put_in::<F>(self.cells, found.lives, number, figure);
         Ok(())
     }
 
@@ -80,8 +76,8 @@ impl<'a, F: Ring> Roster<'a, F> {
         ensures met { Met F.Ring.ops F.Ring.plain (Leave number) self.old.cells.now (done_or result) self.new.cells.now }
         ensures lent { self.new.cells.ghost_name ≡ self.old.cells.ghost_name }
     {
-        let k = self.locate(number)?;
-        take_out::<F>(self.cells, k);
+        let (k, n) = self.locate(number)?;
+        take_out::<F>(self.cells, k, n);
         Ok(())
     }
 
@@ -89,8 +85,8 @@ impl<'a, F: Ring> Roster<'a, F> {
         ensures met { Met F.Ring.ops F.Ring.plain (Change number figure) self.old.cells.now (done_or result) self.new.cells.now }
         ensures lent { self.new.cells.ghost_name ≡ self.old.cells.ghost_name }
     {
-        let k = self.locate(number)?;
-        alter::<F>(self.cells, k, figure);
+        let (k, n) = self.locate(number)?;
+        alter::<F>(self.cells, k, n, figure);
         Ok(())
     }
 

@@ -10,7 +10,6 @@ ghost use Rattle.roster.specs.Refusals.{table_or};
 ghost use Rattle.roster.specs.Triangle.{differences};
 
 use crate::cells::Cell;
-use crate::counting::count;
 use crate::refusals::Refusal;
 use crate::rosters::Roster;
 use figures::Ring;
@@ -23,7 +22,7 @@ fn compose<F: Ring>(row: &mut [F::Plain], alive: F, dead: F)
     let mut below = F::zero();
     for entry in row.iter_mut() {
         let here = F::from_plain(*entry);
-        *entry = alive.mul(below).add(dead.mul(here)).to_plain();
+        *entry = F::sum_of_products(alive, below, dead, here).to_plain();
         below = here;
     }
 }
@@ -62,7 +61,7 @@ impl<F: Ring> Roster<'_, F> {
         ensures { Met F.Ring.ops F.Ring.plain (Composed table.old) self.now.cells.now (table_or result table.new) self.now.cells.now }
     {
         let cells = &*self.cells;
-        let n = count::<F>(cells);
+        let n = self.lives();
         if table.len() <= n {
             return Err(Refusal::ShortTable);
         }
@@ -85,7 +84,7 @@ impl<F: Ring> Roster<'_, F> {
         ensures { Met F.Ring.ops F.Ring.plain (Triangle table.old) self.now.cells.now (table_or result table.new) self.now.cells.now }
     {
         let cells = &*self.cells;
-        let last = count::<F>(cells);
+        let last = self.lives();
         if table.len() <= last {
             return Err(Refusal::ShortTable);
         }

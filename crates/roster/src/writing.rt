@@ -28,7 +28,8 @@ pub(crate) fn multiply_in<F: Ring>(cells: &mut [Cell<F::Plain>], figure: F)
     let mut below = F::zero();
     for cell in cells.iter_mut() {
         let here = F::from_plain(cell.sum);
-        cell.sum = here.add(figure.mul(below)).to_plain();
+        // The sum here as a product, since a kind may add two of them in one step.
+        cell.sum = F::sum_of_products(here, F::one(), figure, below).to_plain();
         below = here;
     }
 }

@@ -16,12 +16,12 @@ loop-t-preserved g c size led held =
     let long = length-between c.args.cells.now k last (omega (arith, c.requires.1.1)) in
     let read = c.cell-item.is ∙ get_or-between c.args.cells.now k last t x (omega (arith, long)) in
     alternating_more g.met.F.Ring.laws led.whole (figures led.lives) c.args.j k t (get_or c.coefficients-ways.result t 0)
-    c.loop-t.sum c.from_plain-whole.result c.from_plain-kept.result c.multiple.result c.signed.result c.mul.result c.add-sum.result
+    c.loop-t.sum c.from_plain-whole.result c.from_plain.result c.multiple.result c.signed-term.result c.one.result c.sum_of_products-sum.result
     (c.loop-t.invariant size led held)
     (read_figure figure back held 0 c.index-cells-0.result c.from_plain-whole.result (omega arith) c.from_plain-whole.ensures)
-    (read_sum figure back held (k + t) x c.from_plain-kept.result (omega arith) (c.from_plain-kept.ensures ∙ ap (λ cell. figure cell.sum) read))
+    (read_sum figure back held (k + t) x c.from_plain.result (omega arith) (c.from_plain.ensures ∙ ap (λ cell. figure cell.sum) read))
     (c.coefficients-ways.ensures.1 t (omega arith))
     c.multiple.ensures
-    c.signed.ensures
-    c.mul.ensures
-    c.add-sum.ensures
+    c.signed-term.ensures
+    c.one.ensures
+    c.sum_of_products-sum.ensures

@@ -1,4 +1,4 @@
-use Rattle.std.proofs.Common.{◌≡◌, ℕ, zero, suc, ◌+◌, ◌<◌, ◌≤◌, [], ◌++◌, map, length, get_or, take, drop, set, sym, refl, ap, ◌∙◌, add-one, arith}
+use Rattle.std.proofs.Common.{◌≡◌, ◌+◌, ◌<◌, [], ◌++◌, map, length, get_or, take, drop, set, sym, refl, ap, ◌∙◌, add-one, arith}
 use Rattle.std.proofs.lemmas.List.{length-map, length-set, length-take-le, get_or-take, drop-set-lt}
 use Rattle.algebra.specs.Patterns.{Life}
 use Rattle.algebra.specs.Ring.{semi}
@@ -10,11 +10,6 @@ use Rattle.roster.proofs.Laying.{length_held}
 use Rattle.roster.proofs.QuestionsRead.{read_figure, asked, row_asked}
 use Rattle.roster.proofs.RowsComposed.{row_first, row_nobody, against_more, length_against, composed_split, composed_join, composed_all, compose_joins}
 use Rattle.roster.proofs.rosters.Roster.composed_row.Goals as goal
-
--- A count of lives is within the cells after the first.
-fits : (n size rest : ℕ) → (0 < n → n < size) → rest + 1 ≡ size → n ≤ rest
-fits zero size rest within more = omega arith
-fits (suc n) size rest within more = omega (arith, within (omega arith))
 
 pub loop-i-init : goal.loop-i-init
 loop-i-init g c size led held =
@@ -33,7 +28,7 @@ loop-i-preserved g c size led held =
     let d = led.whole in
     let ps = figures led.lives in
     let i = c.loop-i.i in
-    let n = c.count-n.result in
+    let n = c.lives-n.result in
     let cells = c.args.self.now.cells.now in
     let others = c.in-Some.lives.now in
     let x = c.life-item.result in
@@ -41,8 +36,8 @@ loop-i-preserved g c size led held =
     let entry = set c.args.table.now 0 w in
     let l : Life g.row.F.Denot = record { alive = c.from_plain-alive.result; dead = c.add.result } in
     let split = c.in-Some.ensures.cases.0 in
-    let lives = c.count-n.ensures.lives size led held in
-    let part = length-take-le n others (fits _ _ _ c.count-n.ensures.within c.in-Some.ensures.cases.1) in
+    let lives = c.lives-n.ensures.counted size led held in
+    let part = length-take-le n others (omega (arith, c.lives-n.ensures.within, c.in-Some.ensures.cases.1)) in
     let inside : i < length ps = rw length-map (omega arith) in
     let room : i + 1 < length entry = rw length-set (omega arith) in
     let here : x ≡ get_or cells (i + 1) x = c.life-item.is ∙ get_or-take n others i x (omega arith) ∙ rw (split, add-one) refl in
@@ -62,9 +57,9 @@ returns g c size led held =
     let plain = g.F.Ring.plain in
     let table = c.args.table.now in
     let w = c.to_plain.result in
-    let n = c.count-n.result in
-    let part = length-take-le n c.in-Some.lives.now (fits _ _ _ c.count-n.ensures.within c.in-Some.ensures.cases.1) in
-    let lives = c.count-n.ensures.lives size led held in
+    let n = c.lives-n.result in
+    let part = length-take-le n c.in-Some.lives.now (omega (arith, c.lives-n.ensures.within, c.in-Some.ensures.cases.1)) in
+    let lives = c.lives-n.ensures.counted size led held in
     let len : length (figures led.lives) ≡ n = rw length-map (sym lives) in
     let kept : drop (n + 1) (set table 0 w) ≡ drop (n + 1) table = drop-set-lt (n + 1) table 0 w (omega arith) in
     let whole = composed_all o plain led.whole (figures led.lives) (set table 0 w) c.loop-i.table c.loop-i.i n (omega arith) len (c.loop-i.invariant size led held) in (
