@@ -1,7 +1,8 @@
 /* Measures the calls to a roster: the time of each by kind of figures and number of lives.
  *
  * bench/run writes and builds the functions that are measured. Each opens a roster on so many cells, lets the lives
- * join, makes one sort of call for each entry of `asked`, and closes the cells.
+ * join, makes one sort of call for each entry of `asked`, and closes the cells. With FORMER defined there is a second
+ * set of them, of an earlier revision, and the two take turns.
  */
 #include <stddef.h>
 #include <stdint.h>
@@ -20,17 +21,27 @@ typedef uint64_t cost(uint32_t cells, const uint32_t *numbers, size_t lives, uin
 
 cost cost_word, cost_check, cost_scenario, cost_slope, cost_slope_check;
 
-static const struct { const char *name; cost *cost; } kinds[] = {
-    { "word", cost_word },
-    { "check", cost_check },
-    { "scenario", cost_scenario },
-    { "slope over word", cost_slope },
-    { "slope over check", cost_slope_check },
+#ifdef FORMER
+#define SIDES 2
+cost former_word, former_check, former_scenario, former_slope, former_slope_check;
+#define COSTS(kind) { cost_##kind, former_##kind }
+#else
+#define SIDES 1
+#define COSTS(kind) { cost_##kind }
+#endif
+
+static const struct { const char *name; cost *costs[SIDES]; } kinds[] = {
+    { "word", COSTS(word) },
+    { "check", COSTS(check) },
+    { "scenario", COSTS(scenario) },
+    { "slope over word", COSTS(slope) },
+    { "slope over check", COSTS(slope_check) },
 };
 #define KINDS (sizeof kinds / sizeof *kinds)
 
-/* As the measured functions number them. FILL clears and lets all lives join, and EMPTY lets them leave again as well. */
-enum call { OPEN, CLOSE, FILL, EMPTY, CHANGE, CLEAR, EXACTLY, AT_LEAST, COMPOSED, TRIANGLE, LIVES, FIND, CALLS };
+/* As the measured functions number them. FILL clears and lets all lives join, EMPTY lets them leave again as well, and
+ * ANEW opens a roster, lets all lives join, makes a composed row and closes. */
+enum call { OPEN, CLOSE, FILL, EMPTY, CHANGE, CLEAR, EXACTLY, AT_LEAST, COMPOSED, TRIANGLE, LIVES, FIND, ANEW, CALLS };
 
 static const uint32_t sizes[] = { 1, 8, 32, 64 };
 #define SIZES (sizeof sizes / sizeof *sizes)
@@ -45,7 +56,7 @@ struct batch {
 };
 
 /* The questions have a batch for each k up to the number of lives, the other calls a single one. */
-static struct batch batches[KINDS][SIZES][CALLS][MOST_LIVES + 1];
+static struct batch batches[SIDES][KINDS][SIZES][CALLS][MOST_LIVES + 1];
 
 static uint32_t last_k(enum call call, uint32_t lives)
 {
@@ -119,11 +130,11 @@ static int by_size(const void *a, const void *b)
 }
 
 /* The time of one call: the median of its rounds, at the best of the places. Of a question: the largest over k. */
-static double each(size_t kind, size_t size, enum call call, uint32_t *worst)
+static double each(size_t side, size_t kind, size_t size, enum call call, uint32_t *worst)
 {
     double most = 0;
     for (uint32_t k = 0; k <= last_k(call, sizes[size]); k++) {
-        struct batch *b = &batches[kind][size][call][k];
+        struct batch *b = &batches[side][kind][size][call][k];
         double least = 1e18;
         for (size_t place = 0; place < PLACES; place++) {
             qsort(b->each[place], ROUNDS, sizeof(float), by_size);
@@ -138,17 +149,40 @@ static double each(size_t kind, size_t size, enum call call, uint32_t *worst)
     return most;
 }
 
-static void line(const char *name, size_t kind, enum call call, enum call less)
+/* The rows of the tables: a call's time, less that of another one, over the number of lives where that is another. */
+static const struct { const char *name; enum call call, less; } lines[] = {
+    { "open", OPEN, CALLS },
+    { "join, mean", FILL, CLEAR },
+    { "leave, mean", EMPTY, FILL },
+    { "change", CHANGE, CALLS },
+    { "clear", CLEAR, CALLS },
+    { "exactly, worst k", EXACTLY, CALLS },
+    { "at_least, worst k", AT_LEAST, CALLS },
+    { "composed_row", COMPOSED, CALLS },
+    { "triangle_row", TRIANGLE, CALLS },
+    { "lives", LIVES, CALLS },
+    { "find", FIND, CALLS },
+    { "close", CLOSE, CALLS },
+    { "from nothing", ANEW, CALLS },
+};
+#define LINES (sizeof lines / sizeof *lines)
+
+static double entry(size_t side, size_t kind, size_t size, size_t line)
 {
     uint32_t k;
-    printf("  %-20s", name);
-    for (size_t s = 0; s < SIZES; s++) {
-        double time = each(kind, s, call, &k);
-        if (less != CALLS)
-            time = (time - each(kind, s, less, &k)) / sizes[s];
-        printf(" %9.1f", time);
-    }
-    putchar('\n');
+    double time = each(side, kind, size, lines[line].call, &k);
+    if (lines[line].less != CALLS)
+        time = (time - each(side, kind, size, lines[line].less, &k)) / sizes[size];
+    return time;
+}
+
+/* The most that a question takes: over a composed row, at the most lives, and over the most at half as many. */
+static void question(const char *name, enum call call, size_t kind)
+{
+    uint32_t k, none;
+    double most = each(0, kind, SIZES - 1, call, &k), half = each(0, kind, SIZES - 2, call, &none);
+    printf("  %s, at k = %u of 64 lives: %.2f of a composed row, %.2f of what it takes at 32 lives\n", name, k,
+           most / each(0, kind, SIZES - 1, COMPOSED, &none), most / half);
 }
 
 int main(void)
@@ -157,34 +191,43 @@ int main(void)
         for (size_t kind = 0; kind < KINDS; kind++)
             for (size_t s = 0; s < SIZES; s++)
                 for (enum call call = 0; call < CALLS; call++)
-                    for (uint32_t k = 0; k <= last_k(call, sizes[s]); k++) {
-                        struct batch *b = &batches[kind][s][call][k];
-                        if (round < 0)
-                            *b = begin(kinds[kind].cost, call, sizes[s], k);
-                        else
-                            b->each[round % PLACES][round / PLACES] = measure(b, round % PLACES);
-                    }
+                    for (uint32_t k = 0; k <= last_k(call, sizes[s]); k++)
+                        for (size_t side = 0; side < SIDES; side++) {
+                            struct batch *b = &batches[side][kind][s][call][k];
+                            if (round < 0)
+                                *b = begin(kinds[kind].costs[side], call, sizes[s], k);
+                            else
+                                b->each[round % PLACES][round / PLACES] = measure(b, round % PLACES);
+                        }
 
     for (size_t kind = 0; kind < KINDS; kind++) {
-        uint32_t k = 0, none;
-        printf("%s\n  %-20s", kinds[kind].name, "lives");
-        for (size_t s = 0; s < SIZES; s++)
-            printf(" %9u", sizes[s]);
+        for (size_t side = 0; side < SIDES; side++) {
+            printf("%s%s\n  %-20s", kinds[kind].name, side ? ", formerly" : "", "lives");
+            for (size_t s = 0; s < SIZES; s++)
+                printf(" %9u", sizes[s]);
+            putchar('\n');
+            for (size_t line = 0; line < LINES; line++) {
+                printf("  %-20s", lines[line].name);
+                for (size_t s = 0; s < SIZES; s++)
+                    printf(" %9.1f", entry(side, kind, s, line));
+                putchar('\n');
+            }
+        }
+        question("exactly", EXACTLY, kind);
+        question("at_least", AT_LEAST, kind);
+    }
+
+    if (SIDES > 1) {
+        printf("\nTime at 64 lives over the former\n  %-20s", "");
+        for (size_t kind = 0; kind < KINDS; kind++)
+            printf(" %16s", kinds[kind].name);
         putchar('\n');
-        line("open", kind, OPEN, CALLS);
-        line("join, mean", kind, FILL, CLEAR);
-        line("leave, mean", kind, EMPTY, FILL);
-        line("change", kind, CHANGE, CALLS);
-        line("clear", kind, CLEAR, CALLS);
-        line("exactly, worst k", kind, EXACTLY, CALLS);
-        line("at_least, worst k", kind, AT_LEAST, CALLS);
-        line("composed_row", kind, COMPOSED, CALLS);
-        line("triangle_row", kind, TRIANGLE, CALLS);
-        line("lives", kind, LIVES, CALLS);
-        line("find", kind, FIND, CALLS);
-        line("close", kind, CLOSE, CALLS);
-        double exactly = each(kind, SIZES - 1, EXACTLY, &k), row = each(kind, SIZES - 1, COMPOSED, &none);
-        printf("  exactly, at k = %u, over composed_row at 64 lives: %.2f\n", k, exactly / row);
+        for (size_t line = 0; line < LINES; line++) {
+            printf("  %-20s", lines[line].name);
+            for (size_t kind = 0; kind < KINDS; kind++)
+                printf(" %16.2f", entry(0, kind, SIZES - 1, line) / entry(SIDES - 1, kind, SIZES - 1, line));
+            putchar('\n');
+        }
     }
     return 0;
 }
