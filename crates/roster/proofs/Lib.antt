@@ -7,7 +7,7 @@ pub mod Places
 pub mod QuestionsMultiple
 pub mod QuestionsRead
 pub mod QuestionsSums
-pub mod QuestionsWays
+pub mod WaysTable
 pub mod RowsComposed
 pub mod RowsTable
 pub mod RowsTriangle

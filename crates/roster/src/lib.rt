@@ -14,6 +14,7 @@ mod rosters;
 mod rows;
 mod slips;
 mod theorems;
+mod ways;
 mod writing;
 
 pub use cells::Cell;
