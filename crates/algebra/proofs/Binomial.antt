@@ -1,5 +1,5 @@
 -- Binomial coefficients: how large they are, and in the form that the summands of an alternating sum need.
-use Rattle.std.proofs.Common.{◌≡◌, ℕ, zero, suc, ◌+◌, ◌^◌, ◌<◌, ◌≤◌, sym, refl, ◌∙◌, subst, le_trans, le_of_suc-le-suc, not-suc-le-zero, add-suc, suc-add, pow-suc, pow_mono, pow_pos, zero-add, arith, lit≤}
+use Rattle.std.proofs.Common.{◌≡◌, ℕ, zero, suc, ◌+◌, ◌^◌, ◌<◌, ◌≤◌, sym, refl, ◌∙◌, subst, le_trans, le_of_suc-le-suc, not-suc-le-zero, add-suc, suc-add, pow-suc, pow_mono, pow_pos, zero-add, arith}
 use Rattle.algebra.specs.Binomial.{choose}
 
 -- The coefficients: ways (suc k) t is the binomial C(k+t, t), and ways 0 t is one at t = 0 and zero after it.
@@ -37,10 +37,3 @@ pub choose_fits : (m n k : ℕ) → n ≤ suc m → choose n k ≤ 2 ^ m
 choose_fits m zero zero h = omega (arith, pow_pos m)
 choose_fits m zero (suc k) h = omega arith
 choose_fits m (suc n) k h = le_trans (choose_half n k) (pow_mono (le_of_suc-le-suc h))
-
-pub ways_fits : (j t : ℕ) → j + t ≤ 65 → ways j t ≤ 2 ^ 63
-ways_fits j zero h = lit≤ tt
-ways_fits zero (suc t) h = lit≤ tt
-ways_fits (suc k) (suc t) h =
-    let below : k + suc t ≤ 64 = omega arith in
-    rw (ways_choose k (suc t)) (choose_fits 63 (k + suc t) (suc t) below)

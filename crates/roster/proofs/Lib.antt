@@ -6,7 +6,7 @@ pub mod Laying
 pub mod Places
 pub mod QuestionsRead
 pub mod QuestionsSums
-pub mod QuestionsWays
+pub mod WaysTable
 pub mod RowsComposed
 pub mod RowsTable
 pub mod RowsTriangle

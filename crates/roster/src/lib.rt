@@ -13,6 +13,7 @@ mod rosters;
 mod rows;
 mod slips;
 mod theorems;
+mod ways;
 mod writing;
 
 pub use cells::Cell;

@@ -38,7 +38,7 @@ fn alternating<F: Ring>(cells: &[Cell<F::Plain>], j: usize, k: usize, m: usize) 
     ensures { OfLedger F.Ring.ops F.Ring.plain cells.now (λ l. result ≡ horner F.Ring.ops l.whole (summand F.Ring.ops (figures l.lives) j k) (m + 1)) }
 {
     let whole = F::from_plain(cells[0].figure);
-    let ways = coefficients(j, m);
+    let ways = coefficients(j);
     let mut sum = F::zero();
     for (t, cell) in cells[k..=k + m].iter().enumerate() {
         let term = signed(t, F::from_plain(cell.sum).multiple(ways[t]));

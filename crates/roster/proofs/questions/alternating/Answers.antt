@@ -15,7 +15,7 @@ loop-t-preserved g c size led held =
     let last = k + c.args.m + 1 in
     let long = length-between c.args.cells.now k last (omega (arith, c.requires.1.1)) in
     let read = c.cell-item.is ∙ get_or-between c.args.cells.now k last t x (omega (arith, long)) in
-    alternating_more g.met.F.Ring.laws led.whole (figures led.lives) c.args.j k t (get_or c.coefficients-ways.result t 0)
+    alternating_more g.met.F.Ring.laws led.whole (figures led.lives) c.args.j k t (get_or c.coefficients-ways.result.now t 0)
     c.loop-t.sum c.from_plain-whole.result c.from_plain.result c.multiple.result c.signed-term.result c.one.result c.sum_of_products-sum.result
     (c.loop-t.invariant size led held)
     (read_figure figure back held 0 c.index-cells-0.result c.from_plain-whole.result (omega arith) c.from_plain-whole.ensures)
