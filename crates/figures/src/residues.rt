@@ -2,7 +2,7 @@
 ghost use Rattle.figures.specs.Residues.{residue, ops as residue_ops, modulus};
 ghost use Rattle.figures.specs.Modular.{modular_laws, residue_modular};
 ghost use Rattle.figures.specs.Same.{same_residue};
-ghost use Rattle.std.specs.Prelude.{◌≡◌, ◌+◌, ◌/◌, ◌%◌, ◌^◌, ◌<◌};
+ghost use Rattle.std.specs.Prelude.{◌≡◌, ◌^◌, ◌<◌};
 ghost use Rattle.std.proofs.Common.{mod-eq_of_lt, rules};
 
 use crate::kinds::Residue;
@@ -10,22 +10,17 @@ use crate::{Packable, Ring};
 
 const MODULUS: u32 = 2147483647;
 
-// 2^31, which leaves 1: so the digits of a number to this base may be added up in place of a division by the modulus.
+// 2^31 leaves 1, so that the digits of a number to this base may be added up in place of a division by the modulus.
 const BASE: u64 = 2147483648;
 
-fn folded(number: u64) -> u64
-    ensures { result ≡ number / 2147483648 + number % 2147483648 }
-{
-    number / BASE + number % BASE
-}
-
-// The residue of a number, with no division by the modulus.
+// The residue of a number, by its digits.
 fn residue_by_digits(number: u64) -> Residue
     requires { number < 2 ^ 63 }
     ensures { result ≡ residue number }
 {
-    // The first sum lies below three times the base, so the second is at most the modulus and two.
-    let twice = folded(folded(number)) as u32;
+    // Below three times the base, and then at most two above the modulus.
+    let once = number / BASE + number % BASE;
+    let twice = (once / BASE + once % BASE) as u32;
     Residue {
         number: if twice < MODULUS {
             twice
