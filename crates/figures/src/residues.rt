@@ -2,12 +2,33 @@
 ghost use Rattle.figures.specs.Residues.{residue, ops as residue_ops, modulus};
 ghost use Rattle.figures.specs.Modular.{modular_laws, residue_modular};
 ghost use Rattle.figures.specs.Same.{same_residue};
+ghost use Rattle.std.specs.Prelude.{◌≡◌, ◌^◌, ◌<◌};
 ghost use Rattle.std.proofs.Common.{mod-eq_of_lt, rules};
 
 use crate::kinds::Residue;
 use crate::{Packable, Ring};
 
 const MODULUS: u32 = 2147483647;
+
+// 2^31 leaves 1, so that the digits of a number to this base may be added up in place of a division by the modulus.
+const BASE: u64 = 2147483648;
+
+// The residue of a number, by its digits.
+fn residue_by_digits(number: u64) -> Residue
+    requires { number < 2 ^ 63 }
+    ensures { result ≡ residue number }
+{
+    // Below three times the base, and then at most two above the modulus.
+    let once = number / BASE + number % BASE;
+    let twice = (once / BASE + once % BASE) as u32;
+    Residue {
+        number: if twice < MODULUS {
+            twice
+        } else {
+            twice - MODULUS
+        },
+    }
+}
 
 impl Ring for Residue {
     /// Any 32-bit number stands for its remainder; what is written is the remainder itself.
@@ -60,10 +81,7 @@ impl Ring for Residue {
 
     // The sum of two products of residues fits in 63 bits.
     fn sum_of_products(a: Residue, b: Residue, c: Residue, d: Residue) -> Residue {
-        let sum = a.number as u64 * b.number as u64 + c.number as u64 * d.number as u64;
-        Residue {
-            number: (sum % MODULUS as u64) as u32,
-        }
+        residue_by_digits(a.number as u64 * b.number as u64 + c.number as u64 * d.number as u64)
     }
 
     fn from_plain(written: u32) -> Residue {
