@@ -7,7 +7,7 @@ use Rattle.algebra.specs.Waring.{signed}
 use Rattle.algebra.proofs.Solver.{ring, made}
 use Rattle.algebra.proofs.Binomial.{ways}
 use Rattle.algebra.proofs.Elementary.{elementary_zero}
-use Rattle.algebra.proofs.Waring.{entry, horner, horner_more, summand, entry_horner}
+use Rattle.algebra.proofs.Waring.{entry, horner, horner_more, summand, signed_linear, entry_horner}
 
 module _ {F : Type 0} {o : Ops F} (L : Laws o) where
   twice : (x : F) → x ≡ o.minus (o.minus x)
@@ -23,15 +23,42 @@ module _ {F : Type 0} {o : Ops F} (L : Laws o) where
   signed_odd (suc zero) x h = refl
   signed_odd (suc (suc t)) x h = signed_odd t x (omega arith) ∙ twice (signed o t x)
 
-  -- One summand more: the coefficient c, the kept sum b, and what the loop makes of them.
-  pub alternating_more : (d : F) (ps : List F) (j k t c : ℕ) (sum whole b m s one next : F)
-      → sum ≡ horner o d (summand o ps j k) t → whole ≡ d → b ≡ elementary o (k + t) ps → c ≡ ways j t
-      → m ≡ multiple o c b → s ≡ signed o t m → one ≡ o.one → next ≡ o.plus (o.times sum whole) (o.times s one)
-      → next ≡ horner o d (summand o ps j k) (t + 1)
-  alternating_more d ps j k t c sum whole b m s one next so_far is-d is_b is_c is_m is-s is-one is-next =
-      let product : o.times sum whole ≡ o.times (horner o d (summand o ps j k) t) d = ap₂ o.times so_far is-d in
-      let summed : s ≡ summand o ps j k t = is-s ∙ ap (signed o t) (is_m ∙ ap₂ (multiple o) is_c is_b) in
-      is-next ∙ ap₂ o.plus product (ap (o.times s) is-one ∙ L.times_one s ∙ summed) ∙ sym (horner_more o d (summand o ps j k) t)
+  signed_twice : (t : ℕ) (x : F) → signed o t (signed o t x) ≡ x
+  signed_twice zero x = refl
+  signed_twice (suc t) x = ap o.minus (signed_minus t (signed o t x)) ∙ sym (twice _) ∙ signed_twice t x
+    where
+      signed_minus : (t : ℕ) (x : F) → signed o t (o.minus x) ≡ o.minus (signed o t x)
+      signed_minus zero x = refl
+      signed_minus (suc t) x = ap o.minus (signed_minus t x)
+
+  at_minus : (sum d x : F) → o.plus (o.times sum (o.minus d)) (o.times x o.one) ≡ o.plus x (o.times d (o.minus sum))
+  at_minus sum d x = ring L (sum ∷ d ∷ x ∷ []) (search made depth 40 fits 100000) tt
+
+  -- One summand more: the coefficient c, the kept sum b, and what the loop makes of them. Up to summand t the sum at −d has the
+  -- sign of t − 1.
+  pub alternating_more : (d : F) (ps : List F) (j k t c : ℕ) (sum whole minus b m one next : F)
+      → o.minus sum ≡ signed o t (horner o d (summand o ps j k) t) → whole ≡ d → minus ≡ o.minus whole → b ≡ elementary o (k + t) ps → c ≡ ways j t
+      → m ≡ multiple o c b → one ≡ o.one → next ≡ o.plus (o.times sum minus) (o.times m one)
+      → o.minus next ≡ signed o (t + 1) (horner o d (summand o ps j k) (t + 1))
+  alternating_more d ps j k t c sum whole minus b m one next so_far is-d is-minus is_b is_c is_m is-one is-next =
+      let h : F = horner o d (summand o ps j k) t in
+      let x : F = multiple o (ways j t) (elementary o (k + t) ps) in
+      let term : m ≡ x = is_m ∙ ap₂ (multiple o) is_c is_b in
+      let made : next ≡ o.plus (o.times sum (o.minus d)) (o.times x o.one) = is-next ∙ ap₂ o.plus (ap (o.times sum) (is-minus ∙ ap o.minus is-d)) (ap₂ o.times term is-one) in
+      let grown : signed o t (o.plus (o.times h d) (signed o t x)) ≡ o.plus x (o.times d (o.minus sum)) =
+      ap (signed o t) (L.plus_comm _ _ ∙ ap (o.plus (signed o t x)) (L.times_comm h d)) ∙ signed_linear L t (signed o t x) d h
+      ∙ ap₂ (λ u v. o.plus u (o.times d v)) (signed_twice t x) (sym so_far) in
+      ap o.minus (made ∙ at_minus sum d x ∙ sym grown)
+      ∙ ap (signed o (suc t)) (sym (horner_more o d (summand o ps j k) t)) ∙ ap (λ i. signed o i (horner o d (summand o ps j k) (t + 1))) (sym (add-one t))
+
+  -- Nothing yet, and at the end.
+  pub alternating_none : (sum : F) → sum ≡ o.zero → o.minus sum ≡ o.zero
+  alternating_none sum e = ap o.minus e ∙ ring L [] (search made depth 40 fits 100000) tt
+
+  pub alternating_all : (h : ℕ → F) (m t : ℕ) (sum : F) → t ≡ m + 1 → o.minus sum ≡ signed o t (h t) → signed o m sum ≡ h (m + 1)
+  alternating_all h m t sum end e =
+      let all : o.minus sum ≡ o.minus (signed o m (h (m + 1))) = e ∙ ap (λ i. signed o i (h i)) end ∙ ap (λ i. signed o i (h (m + 1))) (add-one m) in
+      ap (signed o m) (twice sum ∙ ap o.minus all ∙ sym (twice (signed o m (h (m + 1))))) ∙ signed_twice m (h (m + 1))
 
   pub alternating_entry : (d : F) (ps : List F) (j k m : ℕ) → k + m ≡ length ps → horner o d (summand o ps j k) (m + 1) ≡ entry o d ps j k
   alternating_entry d ps j k m e = ap (horner o d (summand o ps j k)) (add-one m) ∙ sym (entry_horner L d ps j k m e)

@@ -37,15 +37,16 @@ fn alternating<F: Ring>(cells: &[Cell<F::Plain>], j: usize, k: usize, m: usize) 
     requires { (j + m ≤ 65) × ((m ≤ 64) × (k + m < length cells.now)) }
     ensures { OfLedger F.Ring.ops F.Ring.plain cells.now (λ l. result ≡ horner F.Ring.ops l.whole (summand F.Ring.ops (figures l.lives) j k) (m + 1)) }
 {
-    let whole = F::from_plain(cells[0].figure);
+    // By Horner's rule at −d, which makes the signs but for that of the last term.
+    let minus = F::from_plain(cells[0].figure).neg();
     let ways = coefficients(j);
     let mut sum = F::zero();
     for (t, cell) in cells[k..=k + m].iter().enumerate() {
-        let term = signed(t, F::from_plain(cell.sum).multiple(ways[t]));
+        let term = F::from_plain(cell.sum).multiple(ways[t]);
         // The term as a product, since a kind may add two of them in one step.
-        sum = F::sum_of_products(sum, whole, term, F::one());
+        sum = F::sum_of_products(sum, minus, term, F::one());
     }
-    sum
+    signed(m, sum)
 }
 
 /// Questions alter no cell.
