@@ -1,4 +1,4 @@
--- The table of coefficients: a test of it, and what the test shows.
+-- The table of the coefficients: a test of it, and what the test shows.
 use Rattle.std.proofs.Common.{◌≡◌, ℕ, zero, suc, ◌+◌, ◌-◌, ◌*◌, ◌/◌, ◌<◌, ◌≤◌, Bool, true, false, ◌&&◌, ◌==◌, List, [], ◌∷◌, length, get_or, slice_range, drop, replicate, refl, sym, ap, subst, ◌∙◌, add_comm, arith, inl, inr, le_refl, le_of_suc-le-suc, not-suc-le-zero}
 use Rattle.std.proofs.lemmas.Bool.{and_parts, eqb-true, cases_lt, true≢false}
 use Rattle.std.proofs.lemmas.List.{length-take, length-drop}
@@ -7,7 +7,7 @@ use Rattle.algebra.proofs.Rows.{below}
 use Rattle.roster.specs.declared.ways.TheConstants.{WAYS}
 
 -- The row j of a table: 66 − j numbers, after the rows before it.
-abbrev pub row_at : ℕ → List ℕ → List ℕ
+abbrev row_at : ℕ → List ℕ → List ℕ
 row_at j table = let start = j * (133 - j) / 2 in slice_range table start (start + (66 - j))
 
 -- Whether the second list has the running sums of the first, from a sum on, and is one shorter.
@@ -89,10 +89,11 @@ row_within j le =
     let start = j * (133 - j) / 2 in
     omega (arith, (row_of_table j le).0, length-take (start + (66 - j) - start) (drop start WAYS), length-drop start WAYS)
 
-pub row_length : (j : ℕ) → j ≤ 65 → length (row_at j WAYS) ≡ 66 - j
-row_length j le = omega (arith, (row_of_table j le).0)
-
-pub row_entries : (j t : ℕ) → j + t ≤ 65 → get_or (row_at j WAYS) t 0 ≡ ways j t
-row_entries j t le =
-    let row = row_of_table j (omega arith) in
-    From-at j 0 (row_at j WAYS) row.1 t (omega (arith, row.0)) ∙ ap (ways j) (omega arith)
+-- What is read where a row stands.
+pub row_between : (j start end : ℕ) → j ≤ 65 → start ≡ j * (133 - j) / 2 → end ≡ start + (66 - j) → (length (slice_range WAYS start end) ≡ 66 - j) × ((t : ℕ) → j + t ≤ 65 → get_or (slice_range WAYS start end) t 0 ≡ ways j t)
+row_between j start end le from to =
+    let row = row_of_table j le in
+    rw to (rw from (
+      omega (arith, row.0),
+      λ t fits. From-at j 0 (row_at j WAYS) row.1 t (omega (arith, row.0)) ∙ ap (ways j) (omega arith),
+    ))
