@@ -6,7 +6,7 @@ use Rattle.algebra.specs.Sums.{multiple, elementary}
 use Rattle.algebra.specs.Waring.{signed}
 use Rattle.algebra.proofs.Solver.{ring, made}
 use Rattle.algebra.proofs.Binomial.{ways}
-use Rattle.algebra.proofs.Elementary.{elementary_zero}
+use Rattle.algebra.proofs.Elementary.{multiple_of_times, elementary_zero}
 use Rattle.algebra.proofs.Waring.{entry, horner, horner_more, summand, signed_linear, entry_horner}
 
 module _ {F : Type 0} {o : Ops F} (L : Laws o) where
@@ -31,20 +31,23 @@ module _ {F : Type 0} {o : Ops F} (L : Laws o) where
       signed_minus zero x = refl
       signed_minus (suc t) x = ap o.minus (signed_minus t x)
 
-  at_minus : (sum d x : F) → o.plus (o.times sum (o.minus d)) (o.times x o.one) ≡ o.plus x (o.times d (o.minus sum))
+  coefficient : (c : ℕ) (x : F) → o.times (multiple o c o.one) x ≡ multiple o c x
+  coefficient c x = sym (multiple_of_times L c o.one x) ∙ ap (multiple o c) (L.times_comm o.one x ∙ L.times_one x)
+
+  at_minus : (sum d x : F) → o.plus (o.times sum (o.minus d)) x ≡ o.plus x (o.times d (o.minus sum))
   at_minus sum d x = ring L (sum ∷ d ∷ x ∷ []) (search made depth 40 fits 100000) tt
 
   -- One summand more: the coefficient c, the kept sum b, and what the loop makes of them. Up to summand t the sum at −d has the
   -- sign of t − 1.
-  pub alternating_more : (d : F) (ps : List F) (j k t c : ℕ) (sum whole minus b m one next : F)
-      → o.minus sum ≡ signed o t (horner o d (summand o ps j k) t) → whole ≡ d → minus ≡ o.minus whole → b ≡ elementary o (k + t) ps → c ≡ ways j t
-      → m ≡ multiple o c b → one ≡ o.one → next ≡ o.plus (o.times sum minus) (o.times m one)
+  pub alternating_more : (d : F) (ps : List F) (j k t c : ℕ) (sum whole minus one m b next : F)
+      → o.minus sum ≡ signed o t (horner o d (summand o ps j k) t) → whole ≡ d → minus ≡ o.minus whole → c ≡ ways j t → one ≡ o.one → m ≡ multiple o c one
+      → b ≡ elementary o (k + t) ps → next ≡ o.plus (o.times sum minus) (o.times m b)
       → o.minus next ≡ signed o (t + 1) (horner o d (summand o ps j k) (t + 1))
-  alternating_more d ps j k t c sum whole minus b m one next so_far is-d is-minus is_b is_c is_m is-one is-next =
+  alternating_more d ps j k t c sum whole minus one m b next so_far is-d is-minus is_c is-one is_m is_b is-next =
       let h : F = horner o d (summand o ps j k) t in
       let x : F = multiple o (ways j t) (elementary o (k + t) ps) in
-      let term : m ≡ x = is_m ∙ ap₂ (multiple o) is_c is_b in
-      let made : next ≡ o.plus (o.times sum (o.minus d)) (o.times x o.one) = is-next ∙ ap₂ o.plus (ap (o.times sum) (is-minus ∙ ap o.minus is-d)) (ap₂ o.times term is-one) in
+      let term : o.times m b ≡ x = ap₂ o.times (is_m ∙ ap₂ (multiple o) is_c is-one) is_b ∙ coefficient (ways j t) (elementary o (k + t) ps) in
+      let made : next ≡ o.plus (o.times sum (o.minus d)) x = is-next ∙ ap₂ o.plus (ap (o.times sum) (is-minus ∙ ap o.minus is-d)) term in
       let grown : signed o t (o.plus (o.times h d) (signed o t x)) ≡ o.plus x (o.times d (o.minus sum)) =
       ap (signed o t) (L.plus_comm _ _ ∙ ap (o.plus (signed o t x)) (L.times_comm h d)) ∙ signed_linear L t (signed o t x) d h
       ∙ ap₂ (λ u v. o.plus u (o.times d v)) (signed_twice t x) (sym so_far) in

@@ -42,9 +42,8 @@ fn alternating<F: Ring>(cells: &[Cell<F::Plain>], j: usize, k: usize, m: usize) 
     let ways = coefficients(j);
     let mut sum = F::zero();
     for (t, cell) in cells[k..=k + m].iter().enumerate() {
-        let term = F::from_plain(cell.sum).multiple(ways[t]);
-        // The term as a product, since a kind may add two of them in one step.
-        sum = F::sum_of_products(sum, minus, term, F::one());
+        let coefficient = F::one().multiple(ways[t]);
+        sum = F::sum_of_products(sum, minus, coefficient, F::from_plain(cell.sum));
     }
     signed(m, sum)
 }

@@ -20,14 +20,14 @@ loop-t-preserved g c size led held =
     let long = length-between c.args.cells.now k last (omega (arith, c.requires.1.1)) in
     let read = c.cell-item.is ∙ get_or-between c.args.cells.now k last t x (omega (arith, long)) in
     alternating_more g.met.F.Ring.laws led.whole (figures led.lives) c.args.j k t (get_or c.coefficients-ways.result.now t 0)
-    c.loop-t.sum c.from_plain.result c.neg-minus.result c.from_plain-in-loop-t.result c.multiple-term.result c.one.result c.sum_of_products-sum.result
+    c.loop-t.sum c.from_plain.result c.neg-minus.result c.one.result c.multiple-coefficient.result c.from_plain-in-loop-t.result c.sum_of_products-sum.result
     (c.loop-t.invariant size led held)
     (read_figure figure back held 0 c.index-cells-0.result c.from_plain.result (omega arith) c.from_plain.ensures)
     c.neg-minus.ensures
-    (read_sum figure back held (k + t) x c.from_plain-in-loop-t.result (omega arith) (c.from_plain-in-loop-t.ensures ∙ ap (λ cell. figure cell.sum) read))
     (c.coefficients-ways.ensures.1 t (omega arith))
-    c.multiple-term.ensures
     c.one.ensures
+    c.multiple-coefficient.ensures
+    (read_sum figure back held (k + t) x c.from_plain-in-loop-t.result (omega arith) (c.from_plain-in-loop-t.ensures ∙ ap (λ cell. figure cell.sum) read))
     c.sum_of_products-sum.ensures
 
 pub returns : goal.returns
