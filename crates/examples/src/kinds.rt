@@ -2,7 +2,7 @@
 ghost use Rattle.std.specs.Prelude.{◌<◌};
 
 /// A number worked modulo 65535, which is odd and not prime.
-#[derive(Clone, Copy, PartialEq, Eq, Debug)]
+#[derive(Clone, Copy)]
 pub struct Remainder {
     pub number: u32,
     ghost below: { number < 65535 },

@@ -5,12 +5,14 @@ use figures::{Dual, Residue, Ring, Scenarios, Word};
 use roster::{Cell, Refusal, Roster, Slip, close, take_into_use};
 use std::process::Abort;
 
-/// The next figure of a fixed sequence.
-fn drawn<F: Ring>(state: &mut u64) -> F
+/// The next figure of a fixed sequence: any, or bits from some place on, so that as scenarios some hold seldom and some mostly.
+fn drawn<F: Ring>(state: &mut u64, any: bool) -> F
 where
     F::Plain: Sample,
 {
-    F::from_plain(F::Plain::drawn(draw(state)))
+    let bits = draw(state);
+    let bits = if any { bits } else { u64::MAX << (bits % 64) };
+    F::from_plain(F::Plain::drawn(bits))
 }
 
 /// Whether the answer is this figure, told by the plain form.
@@ -65,22 +67,23 @@ fn grown<F: Ring>(
     slip: &Slip,
     cells: &mut [Cell<F::Plain>],
     table: &mut [F::Plain],
+    any: bool,
 ) -> u32
 where
     F::Plain: Sample,
 {
     let mut state = 1908;
-    let mut group = Roster::open(slip, cells, drawn::<F>(&mut state));
+    let mut group = Roster::open(slip, cells, drawn::<F>(&mut state, true));
     let mut count = asked(rt, &group, table);
     for number in 1..=64 {
-        let figure = drawn(&mut state);
+        let figure = drawn(&mut state, any);
         assert_eq!(rt; told(group.join(number, figure)), 0);
         count = count.wrapping_add(asked(rt, &group, table));
     }
     count
 }
 
-/// Two questions at 66 counts, at 65 sizes.
+/// Two questions at 66 counts, of rosters of 65 sizes.
 const COMPARED: u32 = 2 * 66 * 65;
 
 // Cells and table are lent, since here it is not known how large they are.
@@ -89,13 +92,15 @@ where
     F::Plain: Sample,
 {
     let slip = take_into_use(cells);
-    let count = grown::<F>(rt, &slip, cells, table);
+    for any in [true, false] {
+        let count = grown::<F>(rt, &slip, cells, table, any);
+        assert_eq!(rt; count, COMPARED);
+    }
     // They are as many as were taken into use, so closing is not refused.
     match close::<F>(cells, slip) {
         Ok(()) => {}
         Err(_) => unreachable(),
     }
-    assert_eq!(rt; count, COMPARED);
 }
 
 /// A slope whose parts are both this.
