@@ -4,7 +4,7 @@ use crate::tests::{Sample, draw};
 use figures::{Dual, Residue, Ring, Scenarios, Word};
 use std::process::Abort;
 
-/// Numbers whose digits are the least and the greatest that there are, and those about the modulus of residues.
+/// The ends of words, and residues about their modulus: in both halves, since a slope's rate takes the other.
 const ENDS: [u64; 5] = [
     0,
     u64::MAX,
