@@ -10,6 +10,14 @@ pub fn examples_follow()
 {}
 
 #[cfg(test)]
+mod kinds;
+#[cfg(test)]
+mod questions;
+#[cfg(test)]
+mod remainders;
+#[cfg(test)]
+mod sums;
+#[cfg(test)]
 mod tests;
 #[cfg(test)]
 mod values;

@@ -10,7 +10,7 @@ use std::process::Abort;
 use std::test::Fail;
 
 /// A call's outcome as a number: 0 where it was granted, else the refusal's.
-fn told<T: Drop>(res: Result<T, Refusal>) -> u32 {
+pub(crate) fn told<T: Drop>(res: Result<T, Refusal>) -> u32 {
     res.map_or_else(|refusal| refusal.number(), |_| 0)
 }
 
@@ -61,7 +61,7 @@ fn published_table(rt: HostRuntime) {
 }
 
 /// Plain forms that are made of a random number.
-trait Sample: Copy + PartialEq {
+pub(crate) trait Sample: Copy + PartialEq {
     fn drawn(bits: u64) -> Self;
 }
 
@@ -87,7 +87,7 @@ impl<P: Sample> Sample for Dual<P> {
 }
 
 /// The next number of a fixed sequence (splitmix64).
-fn draw(state: &mut u64) -> u64 {
+pub(crate) fn draw(state: &mut u64) -> u64 {
     *state = state.wrapping_add(0x9e3779b97f4a7c15);
     let a = (*state ^ (*state >> 30)).wrapping_mul(0xbf58476d1ce4e5b9);
     let b = (a ^ (a >> 27)).wrapping_mul(0x94d049bb133111eb);
@@ -289,7 +289,7 @@ where
 }
 
 /// A cell that held something before.
-fn stale<P: Copy>(figure: P) -> Cell<P> {
+pub(crate) fn stale<P: Copy>(figure: P) -> Cell<P> {
     Cell {
         figure,
         sum: figure,
