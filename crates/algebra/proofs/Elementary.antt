@@ -36,8 +36,9 @@ module _ {F : Type 0} {o : Ops F} (L : Laws o) where
       ap (λ n. multiple o n x) e ∙ multiple_plus (c % 2) (2 * (c / 2)) x ∙ ap (o.plus (multiple o (c % 2) x)) (multiple_double (c / 2) x)
 
   -- A round of doubling and adding: what is done, and the copies that are left.
-  pub doubling_round : (c : ℕ) (s x s' x' : F) → s' ≡ o.plus s (multiple o (c % 2) x) → x' ≡ o.plus x x → o.plus s' (multiple o (c / 2) x') ≡ o.plus s (multiple o c x)
-  doubling_round c s x s' x' e f = rw (e, f, multiple_half c x) (L.plus_assoc s (multiple o (c % 2) x) (multiple o (c / 2) (o.plus x x)))
+  pub doubling_round : (c : ℕ) (s x s' x' all : F) → s' ≡ o.plus s (multiple o (c % 2) x) → x' ≡ o.plus x x → o.plus s (multiple o c x) ≡ all
+      → o.plus s' (multiple o (c / 2) x') ≡ all
+  doubling_round c s x s' x' all e f so_far = rw (e, f) (L.plus_assoc s _ _ ∙ ap (o.plus s) (sym (multiple_half c x)) ∙ so_far)
 
   -- A figure that is its own negative counts where its copies are an odd number.
   module _ (x : F) (own : o.plus x x ≡ o.zero) where

@@ -18,4 +18,4 @@ loop-left-preserved g c =
           let even : l.left % 2 ≡ 0 = omega arith in
           w.sum-is ∙ sym (ap (λ r. o.plus l.sum (multiple o r l.doubled)) even ∙ L.plus_zero l.sum)
     ] in
-    doubling_round L l.left l.sum l.doubled c.if-left-eq1.sum c.add-doubled.result added c.add-doubled.ensures ∙ l.invariant
+    doubling_round L l.left l.sum l.doubled c.if-left-eq1.sum c.add-doubled.result (multiple o c.args.times c.args.self) added c.add-doubled.ensures l.invariant
