@@ -149,7 +149,7 @@ static double each(size_t side, size_t kind, size_t size, enum call call, uint32
     return most;
 }
 
-/* The rows of the tables: a call's time, less that of another one, over the number of lives where that is another. */
+/* The rows of the tables. Where a second call is named, the time is the first's less the second's, for each life. */
 static const struct { const char *name; enum call call, less; } lines[] = {
     { "open", OPEN, CALLS },
     { "join, mean", FILL, CLEAR },
@@ -192,7 +192,8 @@ int main(void)
             for (size_t s = 0; s < SIZES; s++)
                 for (enum call call = 0; call < CALLS; call++)
                     for (uint32_t k = 0; k <= last_k(call, sizes[s]); k++)
-                        for (size_t side = 0; side < SIDES; side++) {
+                        for (size_t turn = 0; turn < SIDES; turn++) {
+                            size_t side = (round + 1 + turn) % SIDES;
                             struct batch *b = &batches[side][kind][s][call][k];
                             if (round < 0)
                                 *b = begin(kinds[kind].costs[side], call, sizes[s], k);

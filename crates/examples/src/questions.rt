@@ -113,7 +113,8 @@ fn both<P: Copy>(part: P) -> Dual<P> {
 
 #[test]
 fn questions_of_words(rt: HostRuntime) {
-    questions::<Word>(&rt, &mut [stale(7); 65], &mut [7; 65]);
+    // More cells than lives can be in.
+    questions::<Word>(&rt, &mut [stale(7); 70], &mut [7; 65]);
     let seven = both(7);
     questions::<Dual<Word>>(&rt, &mut [stale(seven); 65], &mut [seven; 65]);
 }
@@ -130,6 +131,8 @@ fn questions_of_residues(rt: HostRuntime) {
 #[test]
 fn questions_of_scenarios(rt: HostRuntime) {
     questions::<Scenarios>(&rt, &mut [stale(7); 65], &mut [7; 65]);
+    let seven = both(7);
+    questions::<Dual<Scenarios>>(&rt, &mut [stale(seven); 65], &mut [seven; 65]);
 }
 
 #[test]

@@ -81,17 +81,38 @@ where
     count
 }
 
-/// A sum of two products of the next four figures.
-fn products<F: Ring>(rt: &impl Abort, state: &mut u64) -> u32
+/// A sum of two products, against the products and their sum.
+fn products<F: Ring>(rt: &impl Abort, a: F, b: F, c: F, d: F) -> u32
 where
     F::Plain: Sample,
 {
-    let a: F = drawn(state);
-    let b = drawn(state);
-    let c = drawn(state);
-    let d = drawn(state);
     assert!(rt; same(F::sum_of_products(a, b, c, d), a.mul(b).add(c.mul(d))));
     1
+}
+
+const FEW: [u64; 4] = [0, 1, 0x7ffffffe_7ffffffe, u64::MAX];
+
+fn one_of_few<F: Ring>(i: usize) -> F
+where
+    F::Plain: Sample,
+{
+    F::from_plain(F::Plain::drawn(FEW[i % 4]))
+}
+
+/// Of any four of these. As a number, the sum of some is a residue's modulus, and of others the largest that there is.
+fn products_of_few<F: Ring>(rt: &impl Abort) -> u32
+where
+    F::Plain: Sample,
+{
+    let mut count = 0u32;
+    for i in 0..256 {
+        let a: F = one_of_few(i);
+        let b = one_of_few(i / 4);
+        let c = one_of_few(i / 16);
+        let d = one_of_few(i / 64);
+        count = count.wrapping_add(products(rt, a, b, c, d));
+    }
+    count
 }
 
 /// All of them on 400 figures.
@@ -100,15 +121,18 @@ where
     F::Plain: Sample,
 {
     let mut state = 1959;
-    let mut count = 0u32;
+    let mut count = products_of_few::<F>(rt);
     for _ in 0..400 {
         let x: F = drawn(&mut state);
+        let y = drawn(&mut state);
+        let z = drawn(&mut state);
+        let w = drawn(&mut state);
         count = count
             .wrapping_add(added(rt, x))
             .wrapping_add(split(rt, x))
-            .wrapping_add(products::<F>(rt, &mut state));
+            .wrapping_add(products(rt, x, y, z, w));
     }
-    assert_eq!(rt; count, 400 * (70 + 64 + 63 + 1));
+    assert_eq!(rt; count, 256 + 400 * (70 + 64 + 63 + 1));
 }
 
 #[test]
@@ -122,6 +146,7 @@ fn sums_of_numbers(rt: HostRuntime) {
 #[test]
 fn sums_of_slopes(rt: HostRuntime) {
     sums::<Dual<Word>>(&rt);
+    sums::<Dual<Scenarios>>(&rt);
     sums::<Dual<Residue>>(&rt);
     sums::<Dual<Dual<Residue>>>(&rt);
 }

@@ -1,4 +1,5 @@
--- A proof, nothing to believe: the laws of arithmetic modulo m, once for every modulus and every type that holds such numbers.
+-- A proof, nothing to believe: the laws and multiples of arithmetic modulo m, once for every modulus and every type that
+-- holds such numbers; and that words and residues are of this sort.
 use Rattle.std.specs.Prelude.{◌≡◌, ℕ, zero, suc, ◌+◌, ◌-◌, ◌*◌, ◌%◌, ◌^◌, ◌<◌, refl}
 use Rattle.std.proofs.Common.{sym, ap, ap₂, ◌∙◌, add_comm, add_assoc, add-zero, mul_comm, mul_assoc, mul-add, mod-eq_of_lt, mul-one, arith}
 use Rattle.std.proofs.lemmas.Nat.{mul-mod_second}

@@ -51,10 +51,11 @@ pub trait Ring: Copy {
         ensures { result ≡ plain self };
 
     // A kind may do the next two in fewer steps; it need not.
-    /// The sum of so many copies of a figure; by doubling and adding, in at most 64 rounds.
+    /// The sum of so many copies of a figure.
     fn multiple(self, times: u64) -> Self
         ensures { result ≡ multiple ops times self }
     {
+        // By doubling and adding, in at most 64 rounds.
         let mut left = times;
         let mut doubled = self;
         let mut sum = Self::zero();

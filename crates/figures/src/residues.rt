@@ -18,7 +18,7 @@ fn residue_by_digits(number: u64) -> Residue
     requires { number < 2 ^ 63 }
     ensures { result ≡ residue number }
 {
-    // Below three times the base, and then at most two above the modulus.
+    // Below three times the base, and then at most one above the modulus.
     let once = number / BASE + number % BASE;
     let twice = (once / BASE + once % BASE) as u32;
     Residue {

@@ -34,7 +34,7 @@ fn signed<F: Ring>(t: usize, x: F) -> F
 
 /// The sum over t from 0 to m of (−1)^t · ways(j, t) · B(k+t) · d^(m−t), where B are the kept sums.
 fn alternating<F: Ring>(cells: &[Cell<F::Plain>], j: usize, k: usize, m: usize) -> F
-    requires { (j + m ≤ 65) × ((m ≤ 64) × (k + m < length cells.now)) }
+    requires { (j + m ≤ 65) × (k + m < length cells.now) }
     ensures { OfLedger F.Ring.ops F.Ring.plain cells.now (λ l. result ≡ horner F.Ring.ops l.whole (summand F.Ring.ops (figures l.lives) j k) (m + 1)) }
 {
     // By Horner's rule at −d, which makes the signs but for that of the last term.
@@ -48,8 +48,6 @@ fn alternating<F: Ring>(cells: &[Cell<F::Plain>], j: usize, k: usize, m: usize) 
     signed(m, sum)
 }
 
-/// Questions alter no cell.
-// Two methods, since each promises the answer to another of the ledger's calls.
 impl<F: Ring> Roster<'_, F> {
     /// The alternating sum from place k on to the number of lives; zero where k is more than that.
     /// It is exactly k for j = k + 1, and at least k for j = k.
@@ -67,7 +65,11 @@ impl<F: Ring> Roster<'_, F> {
         }
         alternating(self.cells, j, k, n - k)
     }
+}
 
+/// Questions alter no cell.
+// Two methods, since each promises the answer to another of the ledger's calls.
+impl<F: Ring> Roster<'_, F> {
     /// Exactly k alive.
     pub fn exactly(&self, k: u32) -> Result<F, Refusal>
         ensures { Met F.Ring.ops F.Ring.plain (Exactly k) self.now.cells.now (figure_or result) self.now.cells.now }

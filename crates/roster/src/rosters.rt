@@ -1,5 +1,5 @@
 //! The roster, and the calls that alter it.
-ghost use Rattle.std.specs.Prelude.{◌≡◌, ◌<◌, ◌≤◌, ◌≢◌, length, replicate, IfOk, MatchResult};
+ghost use Rattle.std.specs.Prelude.{◌≡◌, ◌<◌, ◌≢◌, length, replicate, IfOk, MatchResult};
 ghost use Rattle.roster.specs.Ledger.{Join, Leave, Change, Clear, Done, opened, capacity_of, place_of, answer};
 ghost use Rattle.roster.specs.Cells.{Holds, HoldSome, OfLedger, Met, zero_cell};
 ghost use Rattle.roster.specs.Refusals.{done_or};

@@ -2,7 +2,8 @@
 
 /// ways(j, t): 1 for t = 0, the binomial C(j + t − 1, t) for j ≥ 1, and 0 for j = 0 with t ≥ 1.
 /// Row j, for j from 0 to 65, has the 66 − j numbers ways(j, 0) to ways(j, 65 − j); the rows stand one after the other,
-/// so that row j starts at j · (133 − j) / 2. Each row after the first is the running sums of the row before it.
+/// so that row j starts at j · (133 − j) / 2. The first is 1, 0, 0, ..; each later one is the running
+/// sums of the row before it, but for the last.
 #[rattlefmt::skip]
 pub(crate) static WAYS: [u64; 2211] = [
     1, 0, 0, 0, 0, 0, 0, 0, 0, 0, 0, 0, 0, 0, 0, 0, 0, 0, 0, 0, 0, 0, 0, 0, 0, 0, 0, 0, 0, 0, 0, 0, 0, 0, 0, 0, 0, 0, 0, 0, 0, 0, 0, 0, 0, 0, 0, 0, 0, 0, 0, 0, 0, 0, 0, 0, 0, 0, 0, 0, 0, 0, 0, 0, 0, 0,

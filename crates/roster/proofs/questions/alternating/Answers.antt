@@ -17,7 +17,7 @@ loop-t-preserved g c size led held =
     let k = c.args.k in
     let x = c.cell-item.result in
     let last = k + c.args.m + 1 in
-    let long = length-between c.args.cells.now k last (omega (arith, c.requires.1.1)) in
+    let long = length-between c.args.cells.now k last (omega (arith, c.requires.1)) in
     let read = c.cell-item.is ∙ get_or-between c.args.cells.now k last t x (omega (arith, long)) in
     alternating_more g.met.F.Ring.laws led.whole (figures led.lives) c.args.j k t (get_or c.coefficients-ways.result.now t 0)
     c.loop-t.sum c.from_plain.result c.neg-minus.result c.one.result c.multiple-coefficient.result c.from_plain-in-loop-t.result c.sum_of_products-sum.result
