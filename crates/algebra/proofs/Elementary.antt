@@ -25,12 +25,16 @@ module _ {F : Type 0} {o : Ops F} (L : Laws o) where
   multiple_of_times zero x y = ring L (y ∷ []) (search made depth 40 fits 100000) tt
   multiple_of_times (suc c) x y = ap (o.plus (o.times x y)) (multiple_of_times c x y) ∙ ring L (x ∷ y ∷ multiple o c x ∷ []) (search made depth 40 fits 100000) tt
 
+  -- A whole number as a figure, so many ones, times x.
+  pub multiple_as_product : (c : ℕ) (x : F) → o.times (multiple o c o.one) x ≡ multiple o c x
+  multiple_as_product c x = sym (multiple_of_times c o.one x) ∙ ap (multiple o c) (L.times_comm o.one x ∙ L.times_one x)
+
   multiple_double : (c : ℕ) (x : F) → multiple o (2 * c) x ≡ multiple o c (o.plus x x)
   multiple_double c x =
       let e : 2 * c ≡ c + c = omega arith in
       ap (λ n. multiple o n x) e ∙ multiple_plus c c x ∙ sym (multiple_of_plus c x x)
 
-  pub multiple_half : (c : ℕ) (x : F) → multiple o c x ≡ o.plus (multiple o (c % 2) x) (multiple o (c / 2) (o.plus x x))
+  multiple_half : (c : ℕ) (x : F) → multiple o c x ≡ o.plus (multiple o (c % 2) x) (multiple o (c / 2) (o.plus x x))
   multiple_half c x =
       let e : c ≡ c % 2 + 2 * (c / 2) = omega arith in
       ap (λ n. multiple o n x) e ∙ multiple_plus (c % 2) (2 * (c / 2)) x ∙ ap (o.plus (multiple o (c % 2) x)) (multiple_double (c / 2) x)

@@ -46,6 +46,15 @@ module _ {F : Type 0} {o : Ops F} (L : Laws o) where
   signed_zero zero = refl
   signed_zero (suc t) = ap o.minus (signed_zero t) ∙ ring L [] (search made depth 40 fits 100000) tt
 
+  -- Two signs cancel.
+  pub signed_twice : (t : ℕ) (x : F) → signed o t (signed o t x) ≡ x
+  signed_twice zero x = refl
+  signed_twice (suc t) x = ap o.minus (signed_minus t (signed o t x)) ∙ ring L (signed o t (signed o t x) ∷ []) (search made depth 40 fits 100000) tt ∙ signed_twice t x
+    where
+      signed_minus : (t : ℕ) (x : F) → signed o t (o.minus x) ≡ o.minus (signed o t x)
+      signed_minus zero x = refl
+      signed_minus (suc t) x = ap o.minus (signed_minus t x)
+
   pub signed_linear : (t : ℕ) (x p y : F) → signed o t (o.plus x (o.times p y)) ≡ o.plus (signed o t x) (o.times p (signed o t y))
   signed_linear zero x p y = refl
   signed_linear (suc t) x p y = ap o.minus (signed_linear t x p y) ∙ ring L (p ∷ signed o t x ∷ signed o t y ∷ []) (search made depth 40 fits 100000) tt

@@ -1,6 +1,7 @@
 -- Where a number stands among the lives.
 use Rattle.std.proofs.Common.{◌≡◌, ℕ, zero, suc, ◌+◌, ◌<◌, Bool, true, false, cond, ◌||◌, eqb, ◌≢◌, ◌⊎◌, List, [], ◌∷◌, ◌++◌, length, get_or, take, Some, None, Option, sym, refl, ap, ◌∙◌, ap₂, inl, inr, add-one, arith}
 use Rattle.std.specs.Option.{option_or, is_some}
+use Rattle.std.proofs.Math.Seq.{take-length}
 use Rattle.std.proofs.lemmas.Bool.{eq-eqb, eqb-true, ne_eqb, cases_Bool, cond-true, cond-false, or_left}
 use Rattle.std.proofs.lemmas.Option.{none-some, same_Some}
 use Rattle.roster.specs.Ledger.{Member, numbers, present, further, place_of, without, changed}
@@ -31,6 +32,12 @@ module _ {F : Type 0} (n : ℕ) (lives : List (Member F)) (i x : ℕ) (h : i < l
       or_none : (p : Option ℕ) → option_or p None ≡ p
       or_none None = refl
       or_none (Some k) = refl
+
+-- A search that has come to the end of the lives: the count and the place.
+pub searched : {F : Type 0} (n : ℕ) (lives : List (Member F)) (i count : ℕ) (place : Option ℕ) → count ≡ i → place ≡ place_of n (take i lives) → i ≡ length lives
+    → (count ≡ length lives) × (place ≡ place_of n lives)
+searched n lives i count place counted sought end =
+    (counted ∙ end, sought ∙ ap (λ k. place_of n (take k lives)) end ∙ ap (place_of n) (take-length lives))
 
 -- The numbers that are present are those that have a place.
 pub present_is : {F : Type 0} (n : ℕ) (lives : List (Member F)) → present n lives ≡ is_some (place_of n lives)

@@ -6,8 +6,8 @@ use Rattle.algebra.specs.Sums.{multiple, elementary}
 use Rattle.algebra.specs.Waring.{signed}
 use Rattle.algebra.proofs.Solver.{ring, made}
 use Rattle.algebra.proofs.Binomial.{ways}
-use Rattle.algebra.proofs.Elementary.{multiple_of_times, elementary_zero}
-use Rattle.algebra.proofs.Waring.{entry, horner, horner_more, summand, signed_linear, entry_horner}
+use Rattle.algebra.proofs.Elementary.{multiple_as_product, elementary_zero}
+use Rattle.algebra.proofs.Waring.{entry, horner, horner_more, summand, signed_linear, signed_twice, entry_horner}
 
 module _ {F : Type 0} {o : Ops F} (L : Laws o) where
   twice : (x : F) → x ≡ o.minus (o.minus x)
@@ -23,17 +23,6 @@ module _ {F : Type 0} {o : Ops F} (L : Laws o) where
   signed_odd (suc zero) x h = refl
   signed_odd (suc (suc t)) x h = signed_odd t x (omega arith) ∙ twice (signed o t x)
 
-  signed_twice : (t : ℕ) (x : F) → signed o t (signed o t x) ≡ x
-  signed_twice zero x = refl
-  signed_twice (suc t) x = ap o.minus (signed_minus t (signed o t x)) ∙ sym (twice _) ∙ signed_twice t x
-    where
-      signed_minus : (t : ℕ) (x : F) → signed o t (o.minus x) ≡ o.minus (signed o t x)
-      signed_minus zero x = refl
-      signed_minus (suc t) x = ap o.minus (signed_minus t x)
-
-  coefficient : (c : ℕ) (x : F) → o.times (multiple o c o.one) x ≡ multiple o c x
-  coefficient c x = sym (multiple_of_times L c o.one x) ∙ ap (multiple o c) (L.times_comm o.one x ∙ L.times_one x)
-
   at_minus : (sum d x : F) → o.plus (o.times sum (o.minus d)) x ≡ o.plus x (o.times d (o.minus sum))
   at_minus sum d x = ring L (sum ∷ d ∷ x ∷ []) (search made depth 40 fits 100000) tt
 
@@ -46,11 +35,11 @@ module _ {F : Type 0} {o : Ops F} (L : Laws o) where
   alternating_more d ps j k t c sum whole minus one m b next so_far is-d is-minus is_c is-one is_m is_b is-next =
       let h : F = horner o d (summand o ps j k) t in
       let x : F = multiple o (ways j t) (elementary o (k + t) ps) in
-      let term : o.times m b ≡ x = ap₂ o.times (is_m ∙ ap₂ (multiple o) is_c is-one) is_b ∙ coefficient (ways j t) (elementary o (k + t) ps) in
+      let term : o.times m b ≡ x = ap₂ o.times (is_m ∙ ap₂ (multiple o) is_c is-one) is_b ∙ multiple_as_product L (ways j t) (elementary o (k + t) ps) in
       let made : next ≡ o.plus (o.times sum (o.minus d)) x = is-next ∙ ap₂ o.plus (ap (o.times sum) (is-minus ∙ ap o.minus is-d)) term in
       let grown : signed o t (o.plus (o.times h d) (signed o t x)) ≡ o.plus x (o.times d (o.minus sum)) =
       ap (signed o t) (L.plus_comm _ _ ∙ ap (o.plus (signed o t x)) (L.times_comm h d)) ∙ signed_linear L t (signed o t x) d h
-      ∙ ap₂ (λ u v. o.plus u (o.times d v)) (signed_twice t x) (sym so_far) in
+      ∙ ap₂ (λ u v. o.plus u (o.times d v)) (signed_twice L t x) (sym so_far) in
       ap o.minus (made ∙ at_minus sum d x ∙ sym grown)
       ∙ ap (signed o (suc t)) (sym (horner_more o d (summand o ps j k) t)) ∙ ap (λ i. signed o i (horner o d (summand o ps j k) (t + 1))) (sym (add-one t))
 
@@ -61,7 +50,7 @@ module _ {F : Type 0} {o : Ops F} (L : Laws o) where
   pub alternating_all : (h : ℕ → F) (m t : ℕ) (sum : F) → t ≡ m + 1 → o.minus sum ≡ signed o t (h t) → signed o m sum ≡ h (m + 1)
   alternating_all h m t sum end e =
       let all : o.minus sum ≡ o.minus (signed o m (h (m + 1))) = e ∙ ap (λ i. signed o i (h i)) end ∙ ap (λ i. signed o i (h (m + 1))) (add-one m) in
-      ap (signed o m) (twice sum ∙ ap o.minus all ∙ sym (twice (signed o m (h (m + 1))))) ∙ signed_twice m (h (m + 1))
+      ap (signed o m) (twice sum ∙ ap o.minus all ∙ sym (twice (signed o m (h (m + 1))))) ∙ signed_twice L m (h (m + 1))
 
   pub alternating_entry : (d : F) (ps : List F) (j k m : ℕ) → k + m ≡ length ps → horner o d (summand o ps j k) (m + 1) ≡ entry o d ps j k
   alternating_entry d ps j k m e = ap (horner o d (summand o ps j k)) (add-one m) ∙ sym (entry_horner L d ps j k m e)

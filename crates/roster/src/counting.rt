@@ -8,7 +8,7 @@ use crate::rosters::Roster;
 use figures::Ring;
 
 /// The most lives that there are ever.
-pub(crate) const MOST: usize = 64;
+const MOST: usize = 64;
 
 /// How many lives there are, and where the first with a number is, counted from 1.
 #[derive(Clone, Copy)]
@@ -17,8 +17,8 @@ pub(crate) struct Found {
     pub place: Option<usize>,
 }
 
-/// The cells that lives can be in: those from cell 1 on.
-fn rooms<P>(cells: &[Cell<P>]) -> &[Cell<P>]
+/// The cells that lives can be in: those from cell 1 on, 64 at most.
+pub(crate) fn rooms<P>(cells: &[Cell<P>]) -> &[Cell<P>]
     ensures { result.now ≡ take 64 (drop 1 cells.now) }
 {
     match cells.split_first() {

@@ -6,7 +6,7 @@ ghost use Rattle.roster.specs.Refusals.{done_or};
 ghost use Rattle.roster.specs.declared.refusals.Refusal.TheVariants.{OtherCells};
 
 use crate::cells::Cell;
-use crate::counting::MOST;
+use crate::counting::rooms;
 use crate::edits::{alter, put_in, take_out};
 use crate::refusals::Refusal;
 use crate::slips::{Slip, Unclosed};
@@ -32,11 +32,11 @@ impl<'a, F: Ring> Roster<'a, F> {
         Roster { cells }
     }
 
-    /// How many lives there is room for: cell 0 is for none.
+    /// How many lives there is room for.
     fn capacity(&self) -> usize
         ensures { result ≡ capacity_of (length self.now.cells.now) }
     {
-        self.cells.len().saturating_sub(1).min(MOST)
+        rooms(self.cells).len()
     }
 
     /// The place of a life that is to leave or to change, and how many lives there are.

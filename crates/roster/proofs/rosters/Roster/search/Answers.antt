@@ -1,9 +1,7 @@
-use Rattle.std.proofs.Common.{◌+◌, take, Some, sym, ap, ap₂, ◌∙◌, arith, rules}
+use Rattle.std.proofs.Common.{◌+◌, Some, sym, ap, ap₂, ◌∙◌, arith, rules}
 use Rattle.std.specs.Option.{option_or}
-use Rattle.std.proofs.Math.Seq.{take-length}
-use Rattle.roster.specs.Ledger.{place_of}
 use Rattle.roster.proofs.Laying.{length_rooms, rooms_end, some_life, no_life, number_is}
-use Rattle.roster.proofs.Places.{place_here, place_later}
+use Rattle.roster.proofs.Places.{place_here, place_later, searched}
 use Rattle.roster.proofs.rosters.Roster.search.Goals as goal
 use Rattle.roster.proofs.rosters.Roster.search.Goals.{then-life-number, else-life-number}
 
@@ -39,10 +37,8 @@ pub returns-after-loop-life-clause-found : goal.returns-after-loop-life-clause-f
 returns-after-loop-life-clause-found g c size led held =
     let inv = c.loop-life.invariant in
     let so_far = inv.2 size led held in
-    let end = rooms_end held c.rooms-life-items.result.now c.rooms-life-items.ensures c.loop-life.life-index (omega arith) so_far.0 in (
-      inv.0 ∙ end,
-      so_far.1 ∙ ap (λ k. place_of c.args.number (take k led.lives)) end ∙ ap (place_of c.args.number) (take-length led.lives),
-    )
+    searched c.args.number led.lives c.loop-life.life-index c.loop-life.found.lives c.loop-life.found.place inv.0 so_far.1
+    (rooms_end held c.rooms-life-items.result.now c.rooms-life-items.ensures c.loop-life.life-index (omega arith) so_far.0)
 
 pub returns-then-life-eq0-clause-within : goal.returns-then-life-eq0-clause-within
 returns-then-life-eq0-clause-within g c = omega (arith, c.loop-life.invariant.0, length_rooms c.args.self.now.cells.now c.rooms-life-items.result.now c.rooms-life-items.ensures)
@@ -51,7 +47,5 @@ pub returns-then-life-eq0-clause-found : goal.returns-then-life-eq0-clause-found
 returns-then-life-eq0-clause-found g c size led held =
     let inv = c.loop-life.invariant in
     let so_far = inv.2 size led held in
-    let end = no_life held c.rooms-life-items.result.now c.rooms-life-items.ensures c.loop-life.life-index c.life-item.result (omega arith) c.life-item.is so_far.0 c.if-life-eq0.true in (
-      inv.0 ∙ end,
-      so_far.1 ∙ ap (λ k. place_of c.args.number (take k led.lives)) end ∙ ap (place_of c.args.number) (take-length led.lives),
-    )
+    searched c.args.number led.lives c.loop-life.life-index c.loop-life.found.lives c.loop-life.found.place inv.0 so_far.1
+    (no_life held c.rooms-life-items.result.now c.rooms-life-items.ensures c.loop-life.life-index c.life-item.result (omega arith) c.life-item.is so_far.0 c.if-life-eq0.true)
