@@ -30,7 +30,7 @@ module _ {F : Type 0} {o : Ops F} (L : Laws o) where
       let e : 2 * c ≡ c + c = omega arith in
       ap (λ n. multiple o n x) e ∙ multiple_plus c c x ∙ sym (multiple_of_plus c x x)
 
-  pub multiple_half : (c : ℕ) (x : F) → multiple o c x ≡ o.plus (multiple o (c % 2) x) (multiple o (c / 2) (o.plus x x))
+  multiple_half : (c : ℕ) (x : F) → multiple o c x ≡ o.plus (multiple o (c % 2) x) (multiple o (c / 2) (o.plus x x))
   multiple_half c x =
       let e : c ≡ c % 2 + 2 * (c / 2) = omega arith in
       ap (λ n. multiple o n x) e ∙ multiple_plus (c % 2) (2 * (c / 2)) x ∙ ap (o.plus (multiple o (c % 2) x)) (multiple_double (c / 2) x)
