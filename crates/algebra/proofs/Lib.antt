@@ -6,5 +6,6 @@ pub mod Binomial
 pub mod Waring
 pub mod Rows
 pub mod Composition
+pub mod Convolution
 pub mod Each
 mod Examples

@@ -55,7 +55,7 @@ module _ {F : Type 0} {s : Semi F} (L : SemiLaws s) where
   pub exactly_zero_nil : exactly s 0 [] ≡ s.one
   exactly_zero_nil = L.plus_zero s.one
 
-  exactly_suc_nil : (k : ℕ) → exactly s (suc k) [] ≡ s.zero
+  pub exactly_suc_nil : (k : ℕ) → exactly s (suc k) [] ≡ s.zero
   exactly_suc_nil k = ap (λ b. total s (map (weight s []) (cond b ([] ∷ []) []))) (eqb-zero-suc k)
 
   pub at_least_zero_nil : at_least s 0 [] ≡ s.one
@@ -71,7 +71,7 @@ module _ {F : Type 0} {s : Semi F} (L : SemiLaws s) where
       let e : s.times a (weights s (λ p. eqb (suc (survivors p)) 0) ls) ≡ s.zero = ap (s.times a) (weights_none (λ p. eqb (suc (survivors p)) 0) (λ p. eqb-suc-zero (survivors p)) ls) ∙ L.times_zero a in
       weights_cons (λ p. eqb (survivors p) 0) l ls ∙ ap (λ x. s.plus x (s.times l.dead (exactly s 0 ls))) e ∙ zero_plus L (s.times l.dead (exactly s 0 ls))
 
-  exactly_suc_cons : (k : ℕ) (l : Life F) (ls : List (Life F)) → exactly s (suc k) (l ∷ ls) ≡ s.plus (s.times l.alive (exactly s k ls)) (s.times l.dead (exactly s (suc k) ls))
+  pub exactly_suc_cons : (k : ℕ) (l : Life F) (ls : List (Life F)) → exactly s (suc k) (l ∷ ls) ≡ s.plus (s.times l.alive (exactly s k ls)) (s.times l.dead (exactly s (suc k) ls))
   exactly_suc_cons k l ls = weights_cons (λ p. eqb (survivors p) (suc k)) l ls ∙ ap (λ x. s.plus (s.times l.alive x) (s.times l.dead (exactly s (suc k) ls))) (weights_same (λ p. eqb (suc (survivors p)) (suc k)) (λ p. eqb (survivors p) k) (λ p. eqb-suc-suc (survivors p) k) ls)
 
   pub at_least_zero_cons : (l : Life F) (ls : List (Life F)) → at_least s 0 (l ∷ ls) ≡ s.times (s.plus l.alive l.dead) (at_least s 0 ls)
