@@ -21,6 +21,10 @@ map_counting_from f g e a (suc n) = ap₂ ◌∷◌ (ap f (add-one a) ∙ e a) (
 abbrev pub term : {F : Type 0} → Semi F → List F → List F → ℕ → ℕ → F
 term s xs ys k i = s.times (entry s xs i) (entry s ys (k - i))
 
+-- The terms before place i.
+abbrev pub partial : {F : Type 0} → Semi F → List F → List F → ℕ → ℕ → F
+partial s xs ys i k = total s (map (term s xs ys k) (range_with_len 0 (min i (k + 1))))
+
 module _ {F : Type 0} {s : Semi F} (L : SemiLaws s) where
   -- The sum over i from 0 to k of f(i) · g(k − i).
   abbrev convolved : (ℕ → F) → (ℕ → F) → ℕ → F
@@ -117,12 +121,27 @@ module _ {F : Type 0} {s : Semi F} (L : SemiLaws s) where
       ∙ L.plus_zero (total s (map f (range_with_len 0 n)))
 
   module _ (xs ys : List F) (k : ℕ) where
-    -- Terms are zero where the second row has no entry, and where the first has none.
-    pub terms_none : total s (map (term s xs ys k) (range_with_len 0 (k + 1 - length ys))) ≡ s.zero
-    terms_none = total_zeros (term s xs ys k) 0 (k + 1 - length ys) (k + 1 - length ys) (omega arith) (λ i low high. ap (s.times (entry s xs i)) (get_or_past ys (k - i) s.zero (omega (arith, high))) ∙ L.times_zero (entry s xs i))
+    partial_same : (i j : ℕ) → min i (k + 1) ≡ min j (k + 1) → partial s xs ys i k ≡ partial s xs ys j k
+    partial_same i j e = ap (λ n. total s (map (term s xs ys k) (range_with_len 0 n))) e
 
-    pub terms_all : (i : ℕ) → min (length xs) (k + 1) ≤ i → i ≤ k + 1 → total s (map (term s xs ys k) (range_with_len 0 i)) ≡ convolution s xs ys k
-    terms_all i past within = sym (total_zeros (term s xs ys k) i (k + 1 - i) (k + 1) (omega (arith, within)) (λ j low high.
-        ap (λ x. s.times x (entry s ys (k - j))) (get_or_past xs j s.zero (omega (arith, past, low, high)))
+    -- A term more, up to the one at k.
+    pub partial_more : (i : ℕ) → i ≤ k → partial s xs ys (i + 1) k ≡ s.plus (partial s xs ys i k) (s.times (entry s xs i) (entry s ys (k - i)))
+    partial_more i h =
+        let sum : ℕ → F = λ n. total s (map (term s xs ys k) (range_with_len 0 n)) in
+        ap sum (omega (arith, h)) ∙ total_more (term s xs ys k) i ∙ ap (λ n. s.plus (sum n) (term s xs ys k i)) (omega (arith, h))
+
+    -- Past the term at k, and where the second row has no entry, nothing more.
+    pub partial_past : (i : ℕ) → k < i → partial s xs ys (i + 1) k ≡ partial s xs ys i k
+    partial_past i h = partial_same (i + 1) i (omega (arith, h))
+
+    pub partial_beyond : (i : ℕ) → i + length ys ≤ k → partial s xs ys (i + 1) k ≡ partial s xs ys i k
+    partial_beyond i h =
+        partial_more i (omega (arith, h))
+        ∙ ap (λ x. s.plus (partial s xs ys i k) (s.times (entry s xs i) x)) (get_or_past ys (k - i) s.zero (omega (arith, h)))
+        ∙ semiring L (partial s xs ys i k ∷ entry s xs i ∷ []) (search made depth 40 fits 100000) tt
+
+    pub partial_all : partial s xs ys (length xs) k ≡ convolution s xs ys k
+    partial_all = sym (total_zeros (term s xs ys k) (min (length xs) (k + 1)) (k + 1 - length xs) (k + 1) (omega arith) (λ j low high.
+        ap (λ x. s.times x (entry s ys (k - j))) (get_or_past xs j s.zero (omega (arith, low, high)))
         ∙ L.times_comm s.zero (entry s ys (k - j))
         ∙ L.times_zero (entry s ys (k - j))))

@@ -8,4 +8,5 @@ pub mod Rows
 pub mod Composition
 pub mod Convolution
 pub mod Each
+pub mod Filled
 mod Examples

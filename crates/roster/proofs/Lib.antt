@@ -1,5 +1,4 @@
 pub mod Calls
-pub mod Filled
 pub mod Gaps
 pub mod Holding
 pub mod Laying

@@ -1,2 +1,3 @@
+pub mod Convolving
 pub mod Entries
 pub mod Households

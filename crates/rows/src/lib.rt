@@ -1,11 +1,10 @@
 //! Rows that are made of rows of figures.
 #![tactic(auto)]
 
-ghost use Rattle.std.specs.Prelude.{◌≡◌, ◌+◌, ◌≤◌, ◌++◌, List, map, length, drop, Ok, Err, IfOk, MatchResult};
-ghost use Rattle.std.specs.List.{range_with_len};
+ghost use Rattle.std.specs.Prelude.{◌≡◌, ℕ, ◌+◌, ◌<◌, ◌++◌, List, map, length, drop, Ok, Err, IfOk, MatchResult, slice_index_or};
 ghost use Rattle.algebra.specs.Ring.{semi};
 ghost use Rattle.algebra.specs.Patterns.{Life};
-ghost use Rattle.algebra.specs.Rows.{row, convolution};
+ghost use Rattle.algebra.specs.Rows.{row};
 ghost use Rattle.rows.specs.Answer.{answer, number, together};
 
 use figures::Ring;
@@ -41,29 +40,31 @@ fn lives<P: Copy>(row: &[P]) -> Result<usize, Refusal>
     row.len().checked_sub(1).ok_or(Refusal::EmptyRow)
 }
 
-/// The sum over i from 0 to k of entry i of the first row times entry k − i of the second.
-fn convolution<F: Ring>(first: &[F::Plain], second: &[F::Plain], k: usize) -> F
-    requires { k ≤ 64 }
-    ensures { result ≡ convolution (semi F.Ring.ops) (map F.Ring.figure first.now) (map F.Ring.figure second.now) k }
+/// Adds to each entry of a row a factor times that of another, as long.
+fn add_multiple<F: Ring>(row: &mut [F::Plain], factor: F, other: &[F::Plain])
+    requires { length other.now ≡ length row.old }
+    ensures { (j : ℕ) (e : F.Plain) → j < length row.old → slice_index_or row.new j e ≡ F.Ring.plain (F.Ring.ops.plus (F.Ring.figure (slice_index_or row.old j e)) (F.Ring.ops.times factor (F.Ring.figure (slice_index_or other.now j e)))) }
 {
-    // Only where both rows have an entry: the other terms are zero.
-    let start = (k + 1).saturating_sub(second.len());
-    let end = first.len().min(k + 1);
-    let mut sum = F::zero();
-    for i in start..end {
-        let product = F::from_plain(first[i]).mul(F::from_plain(second[k - i]));
-        sum = sum.add(product);
+    // By index: a proof knows nothing of what is written through a zip.
+    for (j, entry) in row.iter_mut().enumerate() {
+        let here = F::from_plain(*entry);
+        let there = F::from_plain(other[j]);
+        // The entry so far as a product, since a kind may add two of them in one step.
+        *entry = F::sum_of_products(here, F::one(), factor, there).to_plain();
     }
-    sum
 }
 
 /// Fills a row with the convolution of two rows.
 fn convolve<F: Ring>(first: &[F::Plain], second: &[F::Plain], row: &mut [F::Plain])
-    requires { length row.old ≤ 65 }
+    requires { length row.old + 1 ≡ length first.now + length second.now }
     ensures { row.new ≡ together (semi F.Ring.ops) F.Ring.figure F.Ring.plain first.now second.now (length row.old) }
 {
-    for (k, entry) in row.iter_mut().enumerate() {
-        *entry = convolution::<F>(first, second, k).to_plain();
+    let zero = F::zero().to_plain();
+    // Not `fill`: it asks for a clone that cannot fail, which `Plain` does not promise.
+    row.fill_with(|| zero);
+    for (i, entry) in first.iter().enumerate() {
+        let factor = F::from_plain(*entry);
+        add_multiple::<F>(&mut row[i..i + second.len()], factor, second);
     }
 }
 

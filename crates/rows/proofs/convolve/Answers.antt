@@ -1,15 +1,34 @@
-use Rattle.std.proofs.Common.{◌++◌, ◌∷◌, [], map, sym, ap, ◌∙◌, ap₂, arith}
-use Rattle.std.proofs.lemmas.List.{take_more_set, map_push}
-use Rattle.std.proofs.lemmas.List.FromFn.{map-range_with_len_more}
-use Rattle.std.specs.List.{range_with_len}
+use Rattle.std.proofs.Common.{◌+◌, ◌-◌, length, ap, ◌∙◌, refl, rules, arith}
 use Rattle.algebra.specs.Ring.{semi}
-use Rattle.algebra.specs.Rows.{convolution}
+use Rattle.algebra.proofs.Filled.{filled}
+use Rattle.algebra.proofs.Semiring.{laws_semi}
+use Rattle.rows.specs.Answer.{together}
+use Rattle.rows.proofs.Entries.{read}
+use Rattle.rows.proofs.Convolving.{filled_none, filled_more, filled_all}
 use Rattle.rows.proofs.convolve.Goals as goal
 
-pub loop-k-preserved : goal.loop-k-preserved
-loop-k-preserved g c =
-    let k = c.loop-k.k in
-    let entry = convolution (semi g.F.Ring.ops) (map g.F.Ring.figure c.args.first.now) (map g.F.Ring.figure c.args.second.now) in
-    take_more_set c.loop-k.row k c.to_plain.result (omega (arith, c.loop-k-test.true, c.loop-k.auto.row))
-    ∙ ap₂ (λ xs x. xs ++ (x ∷ [])) c.loop-k.invariant (c.to_plain.ensures ∙ ap g.F.Ring.plain c.convolution.ensures)
-    ∙ sym (ap (map g.F.Ring.plain) (map-range_with_len_more entry 0 k k (omega arith)) ∙ map_push g.F.Ring.plain (map entry (range_with_len 0 k)) (entry k))
+pub loop-i-init : goal.loop-i-init
+loop-i-init g c =
+    let row = c.fill_with.new.self in
+    filled_none (laws_semi g.met.F.Ring.laws) g.F.Ring.figure g.F.Ring.plain c.args.first.now c.args.second.now (length row) row
+    (filled _ (g.F.Ring.plain g.F.Ring.ops.zero) _ (λ y f' k. search rules) row _ refl c.fill_with.ensures.ran)
+
+pub loop-i-preserved : goal.loop-i-preserved
+loop-i-preserved g c =
+    let figure = g.F.Ring.figure in
+    let first = c.args.first.now in
+    let second = c.args.second.now in
+    let i = c.loop-i.i in
+    filled_more (laws_semi g.met.F.Ring.laws) figure g.F.Ring.plain first second (length c.fill_with.new.self) g.met.F.Ring.back i c.loop-i.row c.loop-i.invariant
+    c.from_plain-factor.result c.add_multiple.new.row (i + length second - i) (omega arith) (omega (arith, c.loop-i-test.true, c.requires, c.fill_with.ensures.len))
+    (read figure first i c.index-first-i.result c.from_plain-factor.result g.F.Ring.ops.zero c.index-first-i.is c.from_plain-factor.ensures c.loop-i-test.true)
+    c.add_multiple.auto.row c.add_multiple.ensures
+
+pub returns : goal.returns
+returns g c =
+    let figure = g.F.Ring.figure in
+    let plain = g.F.Ring.plain in
+    let first = c.args.first.now in
+    let second = c.args.second.now in
+    filled_all (laws_semi g.met.F.Ring.laws) figure plain first second (length c.fill_with.new.self) c.loop-i.i c.loop-i.row c.loop-i.invariant (omega (arith, c.loop-i-test.false, c.loop-i.auto.i-end))
+    ∙ ap (together (semi g.F.Ring.ops) figure plain first second) c.fill_with.ensures.len

@@ -1,6 +1,6 @@
 use Rattle.std.proofs.Common.{rules}
 use Rattle.roster.specs.Cells.{zero_cell}
-use Rattle.roster.proofs.Filled.{filled}
+use Rattle.algebra.proofs.Filled.{filled}
 use Rattle.roster.proofs.writing.wipe.Goals as goal
 
 pub returns : goal.returns

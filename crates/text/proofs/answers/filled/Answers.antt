@@ -1,6 +1,6 @@
 use Rattle.std.proofs.Common.{◌≡◌, [], ◌++◌, length, take, sym, ap, ◌∙◌, rules}
 use Rattle.std.proofs.Math.Seq.{take-nil}
-use Rattle.roster.proofs.Filled.{filled}
+use Rattle.algebra.proofs.Filled.{filled}
 use Rattle.text.proofs.answers.filled.Goals as goal
 
 pub returns : goal.returns
