@@ -1,6 +1,7 @@
 pub mod Calls
 pub mod Gaps
 pub mod Holding
+pub mod Households
 pub mod Laying
 pub mod Places
 pub mod QuestionsRead

@@ -1,5 +1,7 @@
 -- The refusals' numbers, the same in every crate, and results as the ledger's answers.
 use Rattle.std.specs.Prelude.{ℕ, List, Ok, Err, Result}
+use Rattle.rows.specs.Answer.{number}
+use Rattle.rows.specs.declared.Refusal.{Refusal as RowRefusal}
 use Rattle.roster.specs.Ledger.{Answer, Done, Refused, Figure, Table, RefusedTable}
 use Rattle.roster.specs.declared.refusals.Refusal.{Refusal}
 use Rattle.roster.specs.declared.refusals.Refusal.TheVariants.{ZeroNumber, Present, Absent, Full, LargeCount, ShortTable, OtherCells}
@@ -27,3 +29,8 @@ figure_or (Err e) = Refused (refusal_number e)
 abbrev pub table_or : {F P U : Type 0} → Result U Refusal → List P → Answer F P
 table_or (Ok u) t = Table t
 table_or (Err e) t = RefusedTable (refusal_number e) t
+
+-- What came of a row of two households, with the output as it was handed over.
+abbrev pub households_or : {F P : Type 0} → Result (List P) RowRefusal → List P → Answer F P
+households_or (Ok table) output = Table table
+households_or (Err e) output = RefusedTable (number e) output

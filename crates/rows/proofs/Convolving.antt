@@ -15,6 +15,10 @@ use Rattle.algebra.proofs.Convolution.{term, partial, partial_more, partial_past
 use Rattle.algebra.proofs.Rows.{map_counting_constant}
 use Rattle.rows.specs.Answer.{together}
 
+-- An entry in plain form, read as the figure that it stands for.
+pub read : {F P : Type 0} (figure : P → F) (row : List P) (i : ℕ) (x : P) (v e : F) → x ≡ get_or row i x → v ≡ figure x → i < length row → v ≡ get_or (map figure row) i e
+read figure row i x v e at is h = is ∙ ap figure at ∙ sym (get_or-map figure row i x e h)
+
 -- A list with m of its entries, from place i on, exchanged for others.
 abbrev pub put : {P : Type 0} → List P → List P → ℕ → ℕ → List P
 put row sub i m = take i row ++ (sub ++ drop m (drop i row))

@@ -1,3 +1,2 @@
 pub mod Convolving
-pub mod Entries
 pub mod Households

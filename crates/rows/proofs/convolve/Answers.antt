@@ -3,8 +3,7 @@ use Rattle.algebra.specs.Ring.{semi}
 use Rattle.algebra.proofs.Filled.{filled}
 use Rattle.algebra.proofs.Semiring.{laws_semi}
 use Rattle.rows.specs.Answer.{together}
-use Rattle.rows.proofs.Entries.{read}
-use Rattle.rows.proofs.Convolving.{filled_none, filled_more, filled_all}
+use Rattle.rows.proofs.Convolving.{read, filled_none, filled_more, filled_all}
 use Rattle.rows.proofs.convolve.Goals as goal
 
 pub loop-i-init : goal.loop-i-init

@@ -1,6 +1,6 @@
 use Rattle.std.proofs.Common.{◌≡◌, ◌++◌, map, get_or, take, drop}
 use Rattle.roster.specs.Triangle.{differences}
-use Rattle.roster.proofs.rows.differences.Given as goal
+use Rattle.roster.proofs.tables.differences.Given as goal
 
 -- The pass has come down to place r.
 abbrev pub invariant-loop-r : goal.invariant-loop-r

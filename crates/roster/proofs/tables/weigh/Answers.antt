@@ -3,7 +3,7 @@ use Rattle.std.proofs.lemmas.List.{length-map}
 use Rattle.roster.specs.Ledger.{figures}
 use Rattle.roster.proofs.QuestionsRead.{read_figure, read_sum}
 use Rattle.roster.proofs.RowsTriangle.{weighing_more}
-use Rattle.roster.proofs.rows.weigh.Goals as goal
+use Rattle.roster.proofs.tables.weigh.Goals as goal
 
 pub loop-r-preserved : goal.loop-r-preserved
 loop-r-preserved g c size led held lives =

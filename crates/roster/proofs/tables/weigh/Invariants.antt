@@ -2,7 +2,7 @@ use Rattle.std.proofs.Common.{◌≡◌, ℕ, ◌+◌, length}
 use Rattle.roster.specs.Cells.{Holds}
 use Rattle.roster.specs.Ledger.{Ledger, figures}
 use Rattle.roster.proofs.RowsTriangle.{Weighing}
-use Rattle.roster.proofs.rows.weigh.Given as goal
+use Rattle.roster.proofs.tables.weigh.Given as goal
 
 abbrev pub invariant-loop-r : goal.invariant-loop-r
 invariant-loop-r g l =

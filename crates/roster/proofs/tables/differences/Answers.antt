@@ -1,6 +1,6 @@
 use Rattle.std.proofs.Common.{◌-◌, ap, ◌∙◌, arith}
 use Rattle.roster.proofs.RowsTriangle.{differences_down}
-use Rattle.roster.proofs.rows.differences.Goals as goal
+use Rattle.roster.proofs.tables.differences.Goals as goal
 
 pub loop-r-preserved : goal.loop-r-preserved
 loop-r-preserved g c =

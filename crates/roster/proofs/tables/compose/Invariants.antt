@@ -1,7 +1,7 @@
 use Rattle.std.proofs.Common.{◌≡◌, ◌++◌, take, drop}
 use Rattle.algebra.specs.Ring.{semi}
 use Rattle.roster.proofs.RowsComposed.{composed}
-use Rattle.roster.proofs.rows.compose.Given as goal
+use Rattle.roster.proofs.tables.compose.Given as goal
 
 -- What is done, followed by the pass over the rest, is the whole pass.
 abbrev pub invariant-loop-entry : goal.invariant-loop-entry
