@@ -1,4 +1,4 @@
-//! Promises that are no one call's: over runs, and what the questions' sums come to.
+//! Promises that are no one call's: over runs, what the questions' sums come to, and the rows of two rosters.
 ghost use Rattle.std.specs.Prelude.{◌≡◌, ℕ, ◌+◌, ◌≤◌, List, ◌++◌, length, take};
 ghost use Rattle.algebra.specs.Patterns.{at_least};
 ghost use Rattle.algebra.specs.Ring.{semi};

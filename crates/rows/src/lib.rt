@@ -1,4 +1,4 @@
-//! Rows that are made of rows of figures.
+//! The row of two households, from the row of each.
 #![tactic(auto)]
 
 ghost use Rattle.std.specs.Prelude.{◌≡◌, ℕ, ◌+◌, ◌<◌, ◌++◌, List, map, length, drop, Ok, Err, IfOk, MatchResult, slice_index_or};
@@ -9,7 +9,7 @@ ghost use Rattle.rows.specs.Answer.{answer, number, together};
 
 use figures::Ring;
 
-/// The most lives that a row is for.
+/// The most lives that two households hold together.
 const MOST: usize = 64;
 
 /// Why a row is refused.
@@ -69,7 +69,13 @@ fn convolve<F: Ring>(first: &[F::Plain], second: &[F::Plain], row: &mut [F::Plai
 }
 
 /// The row of two households that were entered apart, from the row of each: exactly 0 to exactly n alive of all their
-/// n lives, at the front of the output; the entries after these stay.
+/// n lives. A row has one entry more than its household has lives. Entry k of the row of both is the sum, over i from 0
+/// to k, of entry i of the first times entry k − i of the second, an entry past a row's end being zero: their
+/// convolution, as of the distributions of two independent counts (Feller, "An Introduction to Probability Theory and
+/// Its Applications", volume 1, chapter XI). It fills the front of the output, and the entries after it stay.
+///
+/// Refused, in this order: an empty row (19), over 64 lives together (20), an output with under n + 1 entries (6).
+/// The output is then as it was.
 pub fn households_row<F: Ring>(
     first: &[F::Plain],
     second: &[F::Plain],
