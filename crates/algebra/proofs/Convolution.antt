@@ -2,17 +2,18 @@
 use Rattle.std.proofs.Common.{◌≡◌, ℕ, zero, suc, ◌+◌, ◌-◌, min, ◌<◌, ◌≤◌, List, [], ◌∷◌, ◌++◌, map, length, sym, refl, ap, ◌∙◌, ap₂, add-one, inl, inr, arith}
 use mathlib.Core.Path.{fun_ext}
 use Rattle.std.specs.List.{range_with_len}
-use Rattle.algebra.specs.Ring.{Semi}
-use Rattle.algebra.specs.Patterns.{Life, total, exactly}
-use Rattle.algebra.specs.Rows.{row, entry, convolution}
 use Rattle.std.proofs.lemmas.Bool.{cases_lt}
 use Rattle.std.proofs.lemmas.List.{get_or_past}
 use Rattle.std.proofs.lemmas.List.FromFn.{map-range_with_len_more}
+use Rattle.algebra.specs.Ring.{Semi}
+use Rattle.algebra.specs.Patterns.{Life, total, exactly}
+use Rattle.algebra.specs.Rows.{row, entry, convolution}
 use Rattle.algebra.proofs.Rows.{length_counting, get_or_counting}
 use Rattle.algebra.proofs.Semiring.{SemiLaws}
 use Rattle.algebra.proofs.Solver.{semiring, made}
 use Rattle.algebra.proofs.Patterns.{exactly_zero_nil, exactly_suc_nil, exactly_zero_cons, exactly_suc_cons, exactly_beyond}
 
+-- A list counted from one higher, by the values there.
 map_counting_from : {X : Type 0} (f g : ℕ → X) → ((i : ℕ) → f (suc i) ≡ g i) → (a n : ℕ) → map f (range_with_len (a + 1) n) ≡ map g (range_with_len a n)
 map_counting_from f g e a zero = refl
 map_counting_from f g e a (suc n) = ap₂ ◌∷◌ (ap f (add-one a) ∙ e a) (map_counting_from f g e (a + 1) n)
@@ -21,7 +22,7 @@ map_counting_from f g e a (suc n) = ap₂ ◌∷◌ (ap f (add-one a) ∙ e a) (
 abbrev pub term : {F : Type 0} → Semi F → List F → List F → ℕ → ℕ → F
 term s xs ys k i = s.times (entry s xs i) (entry s ys (k - i))
 
--- The terms before place i.
+-- The convolution at k without the terms from place i on.
 abbrev pub partial : {F : Type 0} → Semi F → List F → List F → ℕ → ℕ → F
 partial s xs ys i k = total s (map (term s xs ys k) (range_with_len 0 (min i (k + 1))))
 
@@ -109,7 +110,7 @@ module _ {F : Type 0} {s : Semi F} (L : SemiLaws s) where
   total_push (x ∷ xs) y = ap (s.plus x) (total_push xs y) ∙ sym (L.plus_assoc x (total s xs) y)
 
   -- A sum of values counted from 0, with one value more, and with only zeros more.
-  pub total_more : (f : ℕ → F) (n : ℕ) → total s (map f (range_with_len 0 (n + 1))) ≡ s.plus (total s (map f (range_with_len 0 n))) (f n)
+  total_more : (f : ℕ → F) (n : ℕ) → total s (map f (range_with_len 0 (n + 1))) ≡ s.plus (total s (map f (range_with_len 0 n))) (f n)
   total_more f n = ap (total s) (map-range_with_len_more f 0 n n (omega arith)) ∙ total_push (map f (range_with_len 0 n)) (f n)
 
   total_zeros : (f : ℕ → F) (n m end : ℕ) → n + m ≡ end → ((i : ℕ) → n ≤ i → i < end → f i ≡ s.zero) → total s (map f (range_with_len 0 end)) ≡ total s (map f (range_with_len 0 n))
@@ -121,18 +122,17 @@ module _ {F : Type 0} {s : Semi F} (L : SemiLaws s) where
       ∙ L.plus_zero (total s (map f (range_with_len 0 n)))
 
   module _ (xs ys : List F) (k : ℕ) where
-    partial_same : (i j : ℕ) → min i (k + 1) ≡ min j (k + 1) → partial s xs ys i k ≡ partial s xs ys j k
-    partial_same i j e = ap (λ n. total s (map (term s xs ys k) (range_with_len 0 n))) e
+    -- The first n terms.
+    abbrev terms : ℕ → F
+    terms n = total s (map (term s xs ys k) (range_with_len 0 n))
 
     -- A term more, up to the one at k.
     pub partial_more : (i : ℕ) → i ≤ k → partial s xs ys (i + 1) k ≡ s.plus (partial s xs ys i k) (s.times (entry s xs i) (entry s ys (k - i)))
-    partial_more i h =
-        let sum : ℕ → F = λ n. total s (map (term s xs ys k) (range_with_len 0 n)) in
-        ap sum (omega (arith, h)) ∙ total_more (term s xs ys k) i ∙ ap (λ n. s.plus (sum n) (term s xs ys k i)) (omega (arith, h))
+    partial_more i h = ap terms (omega (arith, h)) ∙ total_more (term s xs ys k) i ∙ ap (λ n. s.plus (terms n) (term s xs ys k i)) (omega (arith, h))
 
     -- Past the term at k, and where the second row has no entry, nothing more.
     pub partial_past : (i : ℕ) → k < i → partial s xs ys (i + 1) k ≡ partial s xs ys i k
-    partial_past i h = partial_same (i + 1) i (omega (arith, h))
+    partial_past i h = ap terms (omega (arith, h))
 
     pub partial_beyond : (i : ℕ) → i + length ys ≤ k → partial s xs ys (i + 1) k ≡ partial s xs ys i k
     partial_beyond i h =
@@ -140,8 +140,8 @@ module _ {F : Type 0} {s : Semi F} (L : SemiLaws s) where
         ∙ ap (λ x. s.plus (partial s xs ys i k) (s.times (entry s xs i) x)) (get_or_past ys (k - i) s.zero (omega (arith, h)))
         ∙ semiring L (partial s xs ys i k ∷ entry s xs i ∷ []) (search made depth 40 fits 100000) tt
 
+    -- All terms: past the first row's end they are zero.
     pub partial_all : partial s xs ys (length xs) k ≡ convolution s xs ys k
     partial_all = sym (total_zeros (term s xs ys k) (min (length xs) (k + 1)) (k + 1 - length xs) (k + 1) (omega arith) (λ j low high.
         ap (λ x. s.times x (entry s ys (k - j))) (get_or_past xs j s.zero (omega (arith, low, high)))
-        ∙ L.times_comm s.zero (entry s ys (k - j))
-        ∙ L.times_zero (entry s ys (k - j))))
+        ∙ semiring L (entry s ys (k - j) ∷ []) (search made depth 40 fits 100000) tt))

@@ -37,8 +37,8 @@ module _ {P : Type 0} (row sub : List P) (i m : ℕ) (long : length sub ≡ m) (
   put_after k e h = grind (arith, elements)
 
 -- A row that has the terms of the entries before place i of the first.
-abbrev pub Filled : {F P : Type 0} → Semi F → (P → F) → (F → P) → List P → List P → ℕ → ℕ → List P → Type 0
-Filled s figure plain first second size i row = row ≡ map plain (map (partial s (map figure first) (map figure second) i) (range_with_len 0 size))
+abbrev pub UpTo : {F P : Type 0} → Semi F → (P → F) → (F → P) → List P → List P → ℕ → ℕ → List P → Type 0
+UpTo s figure plain first second size i row = row ≡ map plain (map (partial s (map figure first) (map figure second) i) (range_with_len 0 size))
 
 module _ {F P : Type 0} {s : Semi F} (L : SemiLaws s) (figure : P → F) (plain : F → P) (first second : List P) (size : ℕ) where
   abbrev xs : List F
@@ -47,27 +47,27 @@ module _ {F P : Type 0} {s : Semi F} (L : SemiLaws s) (figure : P → F) (plain 
   abbrev ys : List F
   ys = map figure second
 
-  module _ (back : (x : F) → figure (plain x) ≡ x) (i : ℕ) (row : List P) (filled : Filled s figure plain first second size i row) where
+  module _ (back : (x : F) → figure (plain x) ≡ x) (i : ℕ) (row : List P) (done : UpTo s figure plain first second size i row) where
     at : (k : ℕ) (e : P) → k < size → get_or row k e ≡ plain (partial s xs ys i k)
     at k e h =
-        ap (λ zs. get_or zs k e) filled
+        ap (λ zs. get_or zs k e) done
         ∙ get_or-map plain (map (partial s xs ys i) (range_with_len 0 size)) k s.zero e (omega (arith, h, length-map-range_with_len (partial s xs ys i) 0 size))
         ∙ ap plain (get_or-map-range_with_len (partial s xs ys i) 0 size k k s.zero h (omega arith))
 
-    length_filled : length row ≡ size
-    length_filled = ap length filled ∙ length-map (map (partial s xs ys i) (range_with_len 0 size)) plain ∙ length-map-range_with_len (partial s xs ys i) 0 size
+    length_up_to : length row ≡ size
+    length_up_to = ap length done ∙ length-map (map (partial s xs ys i) (range_with_len 0 size)) plain ∙ length-map-range_with_len (partial s xs ys i) 0 size
 
     -- After one entry more: `sub` is the part of the row from its place on, with what was added.
-    pub filled_more : (x : F) (sub : List P) (m : ℕ) → m ≡ length second → i + m ≤ size → x ≡ entry s xs i
+    pub up_to_more : (x : F) (sub : List P) (m : ℕ) → m ≡ length second → i + m ≤ size → x ≡ entry s xs i
         → length sub ≡ length (take m (drop i row))
         → ((j : ℕ) (e : P) → j < length (take m (drop i row)) → get_or sub j e ≡ plain (s.plus (figure (get_or (take m (drop i row)) j e)) (s.times x (figure (get_or second j e)))))
-        → Filled s figure plain first second size (i + 1) (put row sub i m)
-    filled_more x sub m same within is long each =
-        fill_by_all (λ k. plain (partial s xs ys (i + 1) k)) (put row sub i m) size e (put_length row sub i m as_long fits ∙ length_filled) here
+        → UpTo s figure plain first second size (i + 1) (put row sub i m)
+    up_to_more x sub m same within is long each =
+        fill_by_all (λ k. plain (partial s xs ys (i + 1) k)) (put row sub i m) size e (put_length row sub i m as_long fits ∙ length_up_to) here
         ∙ sym (map-map plain (partial s xs ys (i + 1)) (range_with_len 0 size))
       where
         fits : i + m ≤ length row
-        fits = omega (arith, within, length_filled)
+        fits = omega (arith, within, length_up_to)
 
         part : length (take m (drop i row)) ≡ m
         part = omega (arith, length-take m (drop i row), length-drop i row, fits)
@@ -97,12 +97,12 @@ module _ {F P : Type 0} {s : Semi F} (L : SemiLaws s) (figure : P → F) (plain 
         ]
 
   -- Before the first entry: zeros.
-  pub filled_none : (row : List P) → row ≡ replicate size (plain s.zero) → Filled s figure plain first second size 0 row
-  filled_none row zeros =
+  pub up_to_none : (row : List P) → row ≡ replicate size (plain s.zero) → UpTo s figure plain first second size 0 row
+  up_to_none row zeros =
       zeros
       ∙ sym (map-map plain (partial s xs ys 0) (range_with_len 0 size)
       ∙ map_counting_constant (λ k. plain (partial s xs ys 0 k)) (plain s.zero) 0 size (λ k h. let none : min 0 (k + 1) ≡ 0 = omega arith in ap (λ n. plain (total s (map (term s xs ys k) (range_with_len 0 n)))) none))
 
   -- After the last: the row of both.
-  pub filled_all : (i : ℕ) (row : List P) → Filled s figure plain first second size i row → i ≡ length first → row ≡ together s figure plain first second size
-  filled_all i row filled end = filled ∙ ap (λ f. map plain (map f (range_with_len 0 size))) (fun_ext (λ k. ap (λ n. partial s xs ys n k) (end ∙ sym (length-map first figure)) ∙ partial_all L xs ys k))
+  pub up_to_all : (i : ℕ) (row : List P) → UpTo s figure plain first second size i row → i ≡ length first → row ≡ together s figure plain first second size
+  up_to_all i row done end = done ∙ ap (λ f. map plain (map f (range_with_len 0 size))) (fun_ext (λ k. ap (λ n. partial s xs ys n k) (end ∙ sym (length-map first figure)) ∙ partial_all L xs ys k))
