@@ -2,7 +2,7 @@
  *
  * bench/run writes and builds the functions that are measured. Each opens a roster on so many cells, lets the lives
  * join, makes one sort of call for each entry of `asked`, and closes the cells. With FORMER defined there is a second
- * set of them, of an earlier revision, and the two take turns.
+ * set of them, of an earlier revision, and the two take turns; it has the calls before the one that FORMER names.
  */
 #include <stddef.h>
 #include <stdint.h>
@@ -27,6 +27,7 @@ cost former_word, former_check, former_scenario, former_slope, former_slope_chec
 #define COSTS(kind) { cost_##kind, former_##kind }
 #else
 #define SIDES 1
+#define FORMER CALLS
 #define COSTS(kind) { cost_##kind }
 #endif
 
@@ -40,8 +41,11 @@ static const struct { const char *name; cost *costs[SIDES]; } kinds[] = {
 #define KINDS (sizeof kinds / sizeof *kinds)
 
 /* As the measured functions number them. FILL clears and lets all lives join, EMPTY lets them leave again as well, and
- * ANEW opens a roster, lets all lives join, makes a composed row and closes. */
-enum call { OPEN, CLOSE, FILL, EMPTY, CHANGE, CLEAR, EXACTLY, AT_LEAST, COMPOSED, TRIANGLE, LIVES, FIND, ANEW, CALLS };
+ * ANEW opens a roster, lets all lives join, makes a composed row and closes. HOUSEHOLDS makes the row of two households of
+ * half the lives each. */
+enum call {
+    OPEN, CLOSE, FILL, EMPTY, CHANGE, CLEAR, EXACTLY, AT_LEAST, COMPOSED, TRIANGLE, LIVES, FIND, ANEW, HOUSEHOLDS, CALLS
+};
 
 static const uint32_t sizes[] = { 1, 8, 32, 64 };
 #define SIZES (sizeof sizes / sizeof *sizes)
@@ -61,6 +65,12 @@ static struct batch batches[SIDES][KINDS][SIZES][CALLS][MOST_LIVES + 1];
 static uint32_t last_k(enum call call, uint32_t lives)
 {
     return call == EXACTLY || call == AT_LEAST ? lives : 0;
+}
+
+/* Whether the side has the call. */
+static int has(size_t side, enum call call)
+{
+    return call < (side ? FORMER : CALLS);
 }
 
 static uint32_t number(uint32_t i)
@@ -160,6 +170,7 @@ static const struct { const char *name; enum call call, less; } lines[] = {
     { "at_least, worst k", AT_LEAST, CALLS },
     { "composed_row", COMPOSED, CALLS },
     { "triangle_row", TRIANGLE, CALLS },
+    { "households_row", HOUSEHOLDS, CALLS },
     { "lives", LIVES, CALLS },
     { "find", FIND, CALLS },
     { "close", CLOSE, CALLS },
@@ -185,6 +196,14 @@ static void question(const char *name, enum call call, size_t kind)
            most / each(0, kind, SIZES - 1, COMPOSED, &none), most / half);
 }
 
+/* The row of two households, over a composed row of all their lives, at the most. */
+static void households(size_t kind)
+{
+    uint32_t none;
+    printf("  households_row, of 32 lives and 32: %.2f of a composed row of all 64\n",
+           each(0, kind, SIZES - 1, HOUSEHOLDS, &none) / each(0, kind, SIZES - 1, COMPOSED, &none));
+}
+
 int main(void)
 {
     for (int round = -1; round < PLACES * ROUNDS; round++)
@@ -194,6 +213,8 @@ int main(void)
                     for (uint32_t k = 0; k <= last_k(call, sizes[s]); k++)
                         for (size_t turn = 0; turn < SIDES; turn++) {
                             size_t side = (round + 1 + turn) % SIDES;
+                            if (!has(side, call))
+                                continue;
                             struct batch *b = &batches[side][kind][s][call][k];
                             if (round < 0)
                                 *b = begin(kinds[kind].costs[side], call, sizes[s], k);
@@ -208,6 +229,8 @@ int main(void)
                 printf(" %9u", sizes[s]);
             putchar('\n');
             for (size_t line = 0; line < LINES; line++) {
+                if (!has(side, lines[line].call))
+                    continue;
                 printf("  %-20s", lines[line].name);
                 for (size_t s = 0; s < SIZES; s++)
                     printf(" %9.1f", entry(side, kind, s, line));
@@ -216,6 +239,7 @@ int main(void)
         }
         question("exactly", EXACTLY, kind);
         question("at_least", AT_LEAST, kind);
+        households(kind);
     }
 
     if (SIDES > 1) {
@@ -224,6 +248,8 @@ int main(void)
             printf(" %16s", kinds[kind].name);
         putchar('\n');
         for (size_t line = 0; line < LINES; line++) {
+            if (!has(SIDES - 1, lines[line].call))
+                continue;
             printf("  %-20s", lines[line].name);
             for (size_t kind = 0; kind < KINDS; kind++)
                 printf(" %16.2f", entry(0, kind, SIZES - 1, line) / entry(SIDES - 1, kind, SIZES - 1, line));

@@ -2,7 +2,8 @@
 -- each group of calls; `listed` has what is expected of them. The contract of `examples_follow` says that the two are
 -- the same: the same outcomes, call by call.
 use Rattle.std.specs.Prelude.{ℕ, ◌+◌, ◌-◌, ◌^◌, List, [], ◌∷◌, map, flat_map, ℤ, pos, Option, Some, None, Result, Ok, Err}
-use Rattle.algebra.specs.Ring.{Ops}
+use Rattle.std.specs.List.{range_with_len}
+use Rattle.algebra.specs.Ring.{Ops, semi}
 use Rattle.figures.specs.Words as words
 use Rattle.figures.specs.Residues as residues
 use Rattle.figures.specs.ScenarioBits as bits
@@ -11,7 +12,9 @@ use Rattle.figures.specs.declared.kinds.Word.{Word}
 use Rattle.figures.specs.declared.kinds.Residue.{Residue}
 use Rattle.figures.specs.declared.kinds.Scenarios.{Scenarios}
 use Rattle.figures.specs.declared.kinds.Dual.{Dual}
+use Rattle.rows.specs.Answer as rows
 use Rattle.roster.specs.Ledger.{Call, Join, Leave, Exactly, AtLeast, Composed, Answer, Done, Refused, Figure, Table, RefusedTable, opened, answers}
+use Rattle.roster.specs.Refusals.{households_or}
 use Rattle.money.specs.Money.{money_row, factor_of}
 use Rattle.exchangeable.specs.Answer as exchangeable
 use Rattle.exchangeable.specs.declared.Refusal.{Refusal}
@@ -61,6 +64,11 @@ on_slopes d calls =
 abbrev slope_word : ℕ → ℕ → Dual Word
 slope_word a b = duals.dual (words.word a) (words.word b)
 
+-- What came of a call for the row of two households over words: two rows, and the output as it was.
+abbrev on_rows : List ℕ → List ℕ → List ℕ → Outcome
+on_rows first second output =
+    of_answer {F = Word} (λ x. figure x.number) one (households_or (rows.answer (semi words.ops) words.word (λ x. x.number) first second output) output)
+
 -- What came of a call on a table.
 abbrev of_result : Result (List ℤ) Refusal → Outcome
 of_result (Ok zs) = row zs
@@ -81,6 +89,8 @@ computed =
     ∷ Composed (duals.dual 0 0 ∷ duals.dual 0 0 ∷ duals.dual 0 0 ∷ duals.dual 0 0 ∷ []) ∷ [])
     ∷ on_words (2 ^ 32) (Join 1 (words.word (2 ^ 32)) ∷ Join 2 (words.word (2 ^ 32)) ∷ Exactly 2 ∷ [])
     ∷ on_residues 1 (Join 1 (residues.residue (2 ^ 30)) ∷ Join 2 (residues.residue 2) ∷ Exactly 2 ∷ [])
+    ∷ (on_rows (1 ∷ 9 ∷ []) (10 ∷ 50 ∷ 40 ∷ []) (7 ∷ 7 ∷ 7 ∷ 7 ∷ 7 ∷ []) ∷ on_rows [] (10 ∷ 50 ∷ 40 ∷ []) (7 ∷ 7 ∷ 7 ∷ 7 ∷ 7 ∷ [])
+    ∷ on_rows (range_with_len 0 34) (range_with_len 0 33) (7 ∷ []) ∷ on_rows (1 ∷ 9 ∷ []) (10 ∷ 50 ∷ 40 ∷ []) (7 ∷ 7 ∷ 7 ∷ []) ∷ [])
     ∷ (row (map pos (money_row (1 ∷ 1 ∷ []))) ∷ row (map pos (money_row (900000000 ∷ 800000000 ∷ 500000000 ∷ [])))
     ∷ figure (factor_of (900000000 ∷ 800000000 ∷ 500000000 ∷ []) 2) ∷ [])
     ∷ (on_table (8 ∷ 4 ∷ 2 ∷ 1 ∷ []) 3 4 ∷ on_table (4 ∷ 2 ∷ 0 ∷ []) 2 3 ∷ on_table (4 ∷ 3 ∷ 1 ∷ []) 2 3 ∷ on_table (4 ∷ 1 ∷ 2 ∷ []) 2 3 ∷ [])
@@ -106,6 +116,10 @@ listed =
     ∷ (done ∷ done ∷ figure 0 ∷ [])
     -- residues, whole one, lives 2^30 and 2: exactly 2 is 1
     ∷ (done ∷ done ∷ figure 1 ∷ [])
+    -- words, rows 1 9 and 10 50 40 of households of whole 10: the row of both, and the fifth entry of the output stays; a row
+    -- with no entry; 33 and 32 lives; an output one short. Refused, it stays
+    ∷ (row (map pos (10 ∷ 140 ∷ 490 ∷ 360 ∷ 7 ∷ []))
+    ∷ refused_row 19 (map pos (7 ∷ 7 ∷ 7 ∷ 7 ∷ 7 ∷ [])) ∷ refused_row 20 (map pos (7 ∷ [])) ∷ refused_row 6 (map pos (7 ∷ 7 ∷ 7 ∷ [])) ∷ [])
     -- money rows, and the factor for 2 of the second
     ∷ (row (map pos (999999998 ∷ 1 ∷ 1 ∷ [])) ∷ row (map pos (10000000 ∷ 140000000 ∷ 490000000 ∷ 360000000 ∷ [])) ∷ figure 850000000 ∷ [])
     -- two tables that events have, with their rows, and two that none have, whose first negative weight is at 0 and at 1

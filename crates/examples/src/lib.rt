@@ -10,6 +10,8 @@ pub fn examples_follow()
 {}
 
 #[cfg(test)]
+mod households;
+#[cfg(test)]
 mod kinds;
 #[cfg(test)]
 mod questions;
@@ -21,3 +23,5 @@ mod sums;
 mod tests;
 #[cfg(test)]
 mod values;
+#[cfg(test)]
+mod zeros;

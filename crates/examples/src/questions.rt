@@ -104,7 +104,7 @@ where
 }
 
 /// A slope whose parts are both this.
-fn both<P: Copy>(part: P) -> Dual<P> {
+pub(crate) fn both<P: Copy>(part: P) -> Dual<P> {
     Dual {
         value: part,
         rate: part,
