@@ -17,30 +17,12 @@ use text::{
 };
 
 pub fn obey(heap: Global, words: &[&[u8]]) -> Result<String, Unanswered> {
-    // A kind is a type, which no value can name, so each has its arm.
     match words {
         [b"unpack", hex] => unpack_command(heap, hex),
         [b"money", entries, lives @ ..] => money_command(heap, entries, lives),
         [b"factor", k, entries, lives @ ..] => factor_command(heap, k, entries, lives),
         [b"exchangeable", m, entries, table @ ..] => exchangeable_command(heap, m, entries, table),
-        [b"households", b"word", entries, rows @ ..] => {
-            households_command::<Word>(heap, entries, rows)
-        }
-        [b"households", b"check", entries, rows @ ..] => {
-            households_command::<Residue>(heap, entries, rows)
-        }
-        [b"households", b"scenario", entries, rows @ ..] => {
-            households_command::<Scenarios>(heap, entries, rows)
-        }
-        [b"households", b"slope-word", entries, rows @ ..] => {
-            households_command::<Dual<Word>>(heap, entries, rows)
-        }
-        [b"households", b"slope-check", entries, rows @ ..] => {
-            households_command::<Dual<Residue>>(heap, entries, rows)
-        }
-        [b"households", b"slope-scenario", entries, rows @ ..] => {
-            households_command::<Dual<Scenarios>>(heap, entries, rows)
-        }
+        [b"households", kind, entries, rows @ ..] => households(heap, kind, entries, rows),
         _ => Err(NotUnderstood),
     }
 }
@@ -91,6 +73,25 @@ fn exchangeable_command(
 }
 
 /// households KIND ENTRIES FIGURE FIGURE .. / FIGURE FIGURE ..
+fn households(
+    heap: Global,
+    kind: &[u8],
+    entries: &[u8],
+    rows: &[&[u8]],
+) -> Result<String, Unanswered> {
+    // A kind is a type, which no value can name, so each has its arm.
+    match kind {
+        b"word" => households_command::<Word>(heap, entries, rows),
+        b"check" => households_command::<Residue>(heap, entries, rows),
+        b"scenario" => households_command::<Scenarios>(heap, entries, rows),
+        b"slope-word" => households_command::<Dual<Word>>(heap, entries, rows),
+        b"slope-check" => households_command::<Dual<Residue>>(heap, entries, rows),
+        b"slope-scenario" => households_command::<Dual<Scenarios>>(heap, entries, rows),
+        _ => Err(NotUnderstood),
+    }
+}
+
+/// The row of two households, from figures of a kind.
 fn households_command<F: Ring>(
     heap: Global,
     entries: &[u8],
