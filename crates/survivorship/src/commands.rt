@@ -1,10 +1,20 @@
 //! The commands that need no roster.
+ghost use Rattle.std.specs.Prelude.{◌≡◌, Some, None, replicate, IfErr, IfOk};
+ghost use Rattle.std.specs.Option.{option_map};
+ghost use Rattle.text.specs.Text.{number_within};
+ghost use Rattle.text.specs.Understood.{FailsOnlyWhere};
+
 use exchangeable::exchangeable_row;
+use figures::{Dual, Residue, Ring, Scenarios, Word};
 use money::{factor, money_row};
 use reply::unpack;
+use rows::households_row;
 use std::alloc::Global;
 use text::Unanswered::{self, NotUnderstood};
-use text::{fields_text, filled, hex_bytes, short_number, short_numbers, size, table_text};
+use text::{
+    Typed, around_slash, fields_text, filled, hex_bytes, plain_forms, short_number, size,
+    table_text,
+};
 
 pub fn obey(heap: Global, words: &[&[u8]]) -> Result<String, Unanswered> {
     match words {
@@ -12,6 +22,7 @@ pub fn obey(heap: Global, words: &[&[u8]]) -> Result<String, Unanswered> {
         [b"money", entries, lives @ ..] => money_command(heap, entries, lives),
         [b"factor", k, entries, lives @ ..] => factor_command(heap, k, entries, lives),
         [b"exchangeable", m, entries, table @ ..] => exchangeable_command(heap, m, entries, table),
+        [b"households", kind, entries, rows @ ..] => households(heap, kind, entries, rows),
         _ => Err(NotUnderstood),
     }
 }
@@ -26,7 +37,7 @@ fn unpack_command(heap: Global, hex: &[u8]) -> Result<String, Unanswered> {
 /// money ENTRIES P P ..
 fn money_command(heap: Global, entries: &[u8], lives: &[&[u8]]) -> Result<String, Unanswered> {
     let entries = size(entries).ok_or(NotUnderstood)?;
-    let lives = short_numbers(heap, lives)?;
+    let lives = plain_forms(heap, lives)?;
     let mut row = filled(heap, 0u64, entries)?;
     money_row(&lives, &mut row)?;
     Ok(table_text(heap, &row)?)
@@ -41,7 +52,7 @@ fn factor_command(
 ) -> Result<String, Unanswered> {
     let k = short_number(k).ok_or(NotUnderstood)?;
     let entries = size(entries).ok_or(NotUnderstood)?;
-    let lives = short_numbers(heap, lives)?;
+    let lives = plain_forms(heap, lives)?;
     let mut work = filled(heap, 0u64, entries)?;
     Ok(factor(&lives, k, &mut work)?.to_string(heap)?)
 }
@@ -55,8 +66,55 @@ fn exchangeable_command(
 ) -> Result<String, Unanswered> {
     let m = short_number(m).ok_or(NotUnderstood)?;
     let entries = size(entries).ok_or(NotUnderstood)?;
-    let table = short_numbers(heap, table)?;
+    let table = plain_forms(heap, table)?;
     let mut row = filled(heap, 0u64, entries)?;
     exchangeable_row(&table, m, &mut row)?;
     Ok(table_text(heap, &row)?)
+}
+
+/// households KIND ENTRIES FIGURE FIGURE .. / FIGURE FIGURE ..
+fn households(
+    heap: Global,
+    kind: &[u8],
+    entries: &[u8],
+    rows: &[&[u8]],
+) -> Result<String, Unanswered> {
+    // A kind is a type, which no value can name, so each has its arm.
+    match kind {
+        b"word" => households_command::<Word>(heap, entries, rows),
+        b"check" => households_command::<Residue>(heap, entries, rows),
+        b"scenario" => households_command::<Scenarios>(heap, entries, rows),
+        b"slope-word" => households_command::<Dual<Word>>(heap, entries, rows),
+        b"slope-check" => households_command::<Dual<Residue>>(heap, entries, rows),
+        b"slope-scenario" => households_command::<Dual<Scenarios>>(heap, entries, rows),
+        _ => Err(NotUnderstood),
+    }
+}
+
+/// The row of two households, from figures of a kind.
+fn households_command<F: Ring>(
+    heap: Global,
+    entries: &[u8],
+    rows: &[&[u8]],
+) -> Result<String, Unanswered>
+where
+    F::Plain: Typed,
+{
+    let (first, second) = around_slash(rows).ok_or(NotUnderstood)?;
+    let first = plain_forms(heap, first)?;
+    let second = plain_forms(heap, second)?;
+    let mut row = zeros::<F>(heap, entries)?;
+    households_row::<F>(&first, &second, &mut row)?;
+    Ok(table_text(heap, &row)?)
+}
+
+/// A table of zeros, of as many entries as a word says.
+pub fn zeros<F: Ring>(heap: Global, entries: &[u8]) -> Result<Vec<F::Plain>, Unanswered>
+where
+    F::Plain: Typed,
+    ensures read { IfOk result (λ table. option_map (λ n. replicate n (F.Ring.plain F.Ring.ops.zero)) (number_within 1000 entries.now) ≡ Some table.items) }
+    ensures unread { IfErr result (FailsOnlyWhere (number_within 1000 entries.now ≡ None)) }
+{
+    let entries = size(entries).ok_or(NotUnderstood)?;
+    Ok(filled(heap, F::zero().to_plain(), entries)?)
 }

@@ -3,3 +3,4 @@ pub mod Decimal
 pub mod Spaces
 pub mod FirstLine
 pub mod Echoes
+pub mod Slash

@@ -147,3 +147,19 @@ is_command ((c ∷ cs) ∷ words) = not (c == 35)
 -- The words of each command, line by line.
 abbrev pub commands : List ℕ → List (List (List ℕ))
 commands input = filter is_command (map words_of (slice_split (λ c. c == 10) input))
+
+-- A word that is a slash and nothing else.
+abbrev pub slash : List ℕ → Bool
+slash [] = false
+slash (c ∷ []) = c == 47
+slash (c ∷ d ∷ cs) = false
+
+abbrev pub only_two : {X : Type 0} → List X → Option (X × X)
+only_two [] = None
+only_two (x ∷ []) = None
+only_two (x ∷ y ∷ []) = Some (x, y)
+only_two (x ∷ y ∷ z ∷ more) = None
+
+-- The words before the only slash, and those behind it; none where there is no slash, or more than one.
+abbrev pub around_slash : List (List ℕ) → Option (List (List ℕ) × List (List ℕ))
+around_slash words = only_two (slice_split slash words)

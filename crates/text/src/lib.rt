@@ -11,8 +11,8 @@ mod words;
 
 pub use answers::{done, filled, outcome_text, table_text};
 pub use bytes::{Hex, echo_words, fields_text, hex_bytes};
-pub use numbers::{short_number, short_numbers, size};
+pub use numbers::{short_number, size};
 pub use theorems::{bytes_and_refusals_are_as_defined, plain_forms_are_as_defined};
-pub use typed::Typed;
+pub use typed::{Typed, plain_forms};
 pub use unanswered::{Refusal, Unanswered};
-pub use words::Lines;
+pub use words::{Lines, around_slash};

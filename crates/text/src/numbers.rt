@@ -1,11 +1,6 @@
 //! Decimal numbers as they are typed.
-ghost use Rattle.std.specs.Prelude.{◌≡◌, ◌≤◌, IfSome, IfOk, IfErr, Err, Some, None, Any, map};
+ghost use Rattle.std.specs.Prelude.{◌≡◌, ◌≤◌, IfSome};
 ghost use Rattle.text.specs.Text.{number_within};
-ghost use Rattle.text.specs.Understood.{FailsOnlyWhere};
-ghost use Rattle.text.specs.declared.unanswered.Unanswered.TheVariants.{NotUnderstood};
-
-use crate::unanswered::Unanswered;
-use std::alloc::Global;
 
 /// The most cells that a roster is opened with, and the most entries of a table.
 const MOST: u64 = 1000;
@@ -46,21 +41,4 @@ pub fn size(word: &[u8]) -> Option<usize>
     ensures { result ≡ number_within 1000 word.now }
 {
     number(word, MOST).map(|n| n as usize)
-}
-
-/// A list of 32-bit numbers.
-pub fn short_numbers(heap: Global, words: &[&[u8]]) -> Result<Vec<u32>, Unanswered>
-    ensures numbers { IfOk result (λ v. map Some v.items ≡ map (λ word. number_within 4294967295 word.now) words.now) }
-    ensures wrong { Any (λ word. number_within 4294967295 word.now ≡ None) words.now → result ≡ Err NotUnderstood }
-    ensures unread { IfErr result (FailsOnlyWhere (Any (λ word. number_within 4294967295 word.now ≡ None) words.now)) }
-{
-    // A wrong word is told whether or not there is memory for the others.
-    if words.iter().any(|word| short_number(word).is_none()) {
-        return Err(Unanswered::NotUnderstood);
-    }
-    let mut numbers = Vec::new(heap);
-    for word in words {
-        numbers.push(short_number(word).ok_or(Unanswered::NotUnderstood)?)?;
-    }
-    Ok(numbers)
 }

@@ -6,6 +6,8 @@ ghost use Rattle.money.specs.Answer.{number, place};
 ghost use Rattle.money.specs.declared.Refusal.{Refusal as MoneyRefusal};
 ghost use Rattle.exchangeable.specs.Answer.{number as table_number, place as table_place};
 ghost use Rattle.exchangeable.specs.declared.Refusal.{Refusal as TableRefusal};
+ghost use Rattle.rows.specs.Answer.{number as row_number};
+ghost use Rattle.rows.specs.declared.Refusal.{Refusal as RowRefusal};
 ghost use Rattle.roster.specs.Refusals.{refusal_number as roster_number};
 ghost use Rattle.roster.specs.declared.requests.Refused.{Refused as RefusedCall};
 ghost use Rattle.reply.specs.Rules.{refusal_number as record_number};
@@ -40,6 +42,8 @@ pub fn bytes_and_refusals_are_as_defined<T: Drop, P: Copy>()
         → u ≡ Refused (record { number = number r; place = place r }) }
     ensures of_exchangeable { (r : TableRefusal) (u : Unanswered) → ⟦<Unanswered as From<exchangeable::Refusal>>⟧.from_gives r u
         → u ≡ Refused (record { number = table_number r; place = table_place r }) }
+    ensures of_rows { (r : RowRefusal) (u : Unanswered) → ⟦<Unanswered as From<rows::Refusal>>⟧.from_gives r u
+        → u ≡ Refused (record { number = row_number r; place = None }) }
     ensures of_rosters { (r : RefusedCall P) (u : Unanswered) → ⟦<Unanswered as From<roster::Refused<P>>>⟧.from_gives r u
         → u ≡ Refused (record { number = roster_number r.refusal; place = None }) }
     ensures of_records { ((r : RecordRefusal) (u : Unanswered) → ⟦<Unanswered as From<reply::Refusal>>⟧.from_gives r u

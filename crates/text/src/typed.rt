@@ -1,8 +1,11 @@
 //! Figures in their plain form, as they are typed and printed.
-ghost use Rattle.std.specs.Prelude.{◌≡◌, ℕ, ◌<◌, List, length, IfSome, IfOk, string_bytes, decimal, Option};
+ghost use Rattle.std.specs.Prelude.{◌≡◌, ℕ, ◌<◌, List, length, map, Any, IfSome, IfOk, IfErr, Err, Some, None, string_bytes, decimal, Option};
 ghost use Rattle.text.specs.Text.{colon_at, number_within, slope, slope_text};
+ghost use Rattle.text.specs.Understood.{FailsOnlyWhere};
+ghost use Rattle.text.specs.declared.unanswered.Unanswered.TheVariants.{NotUnderstood};
 
 use crate::numbers::{number, short_number};
+use crate::unanswered::Unanswered;
 use figures::Dual;
 use std::alloc::{AllocError, Global};
 
@@ -76,4 +79,21 @@ fn first_colon(word: &[u8]) -> Option<usize>
     ensures within { IfSome result (λ i. i < length word.now) }
 {
     word.iter().position(|b| *b == b':')
+}
+
+/// The plain forms that words write.
+pub fn plain_forms<P: Typed>(heap: Global, words: &[&[u8]]) -> Result<Vec<P>, Unanswered>
+    ensures read { IfOk result (λ v. map Some v.items ≡ map (λ word. P.Typed.reads word.now) words.now) }
+    ensures wrong { Any (λ word. P.Typed.reads word.now ≡ None) words.now → result ≡ Err NotUnderstood }
+    ensures unread { IfErr result (FailsOnlyWhere (Any (λ word. P.Typed.reads word.now ≡ None) words.now)) }
+{
+    // A wrong word is told whether or not there is memory for the others.
+    if words.iter().any(|word| P::read(word).is_none()) {
+        return Err(Unanswered::NotUnderstood);
+    }
+    let mut forms = Vec::new(heap);
+    for word in words {
+        forms.push(P::read(word).ok_or(Unanswered::NotUnderstood)?)?;
+    }
+    Ok(forms)
 }

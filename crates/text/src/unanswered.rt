@@ -5,6 +5,7 @@ ghost use Rattle.text.specs.declared.unanswered.Unanswered.TheVariants.{NoMemory
 ghost use Rattle.money.specs.Answer.{number, place};
 ghost use Rattle.exchangeable.specs.Answer.{number as table_number, place as table_place};
 ghost use Rattle.roster.specs.Refusals.{refusal_number as roster_number};
+ghost use Rattle.rows.specs.Answer.{number as row_number};
 ghost use Rattle.reply.specs.Rules.{refusal_number as record_number};
 ghost use Rattle.reply.specs.Asked.{unwritten_number};
 
@@ -76,6 +77,14 @@ impl From<exchangeable::Refusal> for Unanswered {
 
     fn from(refusal: exchangeable::Refusal) -> Unanswered {
         Unanswered::refused(refusal.number(), refusal.place())
+    }
+}
+
+impl From<rows::Refusal> for Unanswered {
+    ghost from_gives = { λ r u. u ≡ Refused (record { number = row_number r; place = None }) };
+
+    fn from(refusal: rows::Refusal) -> Unanswered {
+        Unanswered::refused(refusal.number(), None)
     }
 }
 

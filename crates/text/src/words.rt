@@ -1,7 +1,8 @@
 //! Lines and words of the input.
 ghost use Rattle.std.specs.Prelude.{◌≡◌, ◌<◌, ◌≤◌, [], ◌∷◌, map, length, IfOk, IfSome, IfNone, OnSome, MatchOption};
+ghost use Rattle.std.specs.Option.{option_map};
 ghost use Rattle.text.specs.Reading.{left};
-ghost use Rattle.text.specs.Text.{words_of, newline_at, first_line, other_lines, is_command, commands};
+ghost use Rattle.text.specs.Text.{words_of, slash, around_slash, newline_at, first_line, other_lines, is_command, commands};
 
 use crate::bytes::is_blank;
 use std::alloc::{AllocError, Global};
@@ -77,4 +78,21 @@ fn newline(text: &[u8]) -> Option<usize>
     ensures within { IfSome result (λ i. i < length text.now) }
 {
     text.iter().position(|b| *b == b'\n')
+}
+
+fn is_slash(word: &[u8]) -> bool
+    ensures { result ≡ slash word.now }
+{
+    matches!(word, [b'/'])
+}
+
+/// The words before the only slash, and those behind it; none where there is no slash, or more than one.
+pub fn around_slash<'a, 'b>(words: &'a [&'b [u8]]) -> Option<(&'a [&'b [u8]], &'a [&'b [u8]])>
+    ensures { option_map (λ parts. (map (λ word. word.now) parts.0.now, map (λ word. word.now) parts.1.now)) result ≡ around_slash (map (λ word. word.now) words.now) }
+{
+    let mut parts = words.split(|word| is_slash(word));
+    match (parts.next(), parts.next(), parts.next()) {
+        (Some(first), Some(second), None) => Some((first, second)),
+        _ => None,
+    }
 }

@@ -1,0 +1,29 @@
+use Rattle.std.proofs.Common.{rules, tests}
+use Rattle.std.specs.Slice.Iter.{split_steps}
+use Rattle.std.proofs.lemmas.Iterator.Splits.{YieldsList-from_slice_split}
+use Rattle.text.specs.Text.{slash}
+use Rattle.text.proofs.Slash.{around, two_yielded, three_yielded, one_yielded, none_yielded}
+use Rattle.text.proofs.words.around_slash.Goals as goal
+use Rattle.text.proofs.words.around_slash.Goals.{in_default-via-in-Some+in-Some+in_default, in_default-via-in-Some+in_default, in_default-via-in_default}
+
+pub returns-in-Some-Some-None : goal.returns-in-Some-Some-None
+returns-in-Some-Some-None c =
+    let m = c.in-Some-Some-None in
+    around c.args.words.now _ (two_yielded (split_steps _) (λ part. part.now) _ _ _ _ _ _ _ c.next.ensures.steps c.next-2.ensures.steps c.next-3.ensures.steps m.first m.second m.is-0 m.is-1 m.is-2 _
+    (YieldsList-from_slice_split _ (λ word. slash word.now) c.args.words.now c.split-parts.ensures.rest c.split-parts.ensures.done c.split-parts.ensures.closure (λ x b q k. search (rules, tests))))
+
+pub returns-in_default : goal.returns-in_default
+returns-in_default c =
+    elim c.in_default.branch [
+      | in_default-via-in-Some+in-Some+in_default w ↦
+          let m = w.in_default in
+          around c.args.words.now _ (three_yielded (split_steps _) (λ part. part.now) _ _ _ _ _ _ _ c.next.ensures.steps c.next-2.ensures.steps c.next-3.ensures.steps m.field-0-0 m.field-0-1 m.field-0-2 m.is-0 m.is-1 m.is-2 _
+          (YieldsList-from_slice_split _ (λ word. slash word.now) c.args.words.now c.split-parts.ensures.rest c.split-parts.ensures.done c.split-parts.ensures.closure (λ x b q k. search (rules, tests))))
+      | in_default-via-in-Some+in_default w ↦
+          let m = w.in_default in
+          around c.args.words.now _ (one_yielded (split_steps _) (λ part. part.now) _ _ _ _ _ _ _ c.next.ensures.steps c.next-2.ensures.steps c.next-3.ensures.steps m.field-0-0 m.is-0 m.is-1 _
+          (YieldsList-from_slice_split _ (λ word. slash word.now) c.args.words.now c.split-parts.ensures.rest c.split-parts.ensures.done c.split-parts.ensures.closure (λ x b q k. search (rules, tests))))
+      | in_default-via-in_default w ↦
+          around c.args.words.now _ (none_yielded (split_steps _) (λ part. part.now) _ _ _ _ _ _ _ c.next.ensures.steps c.next-2.ensures.steps c.next-3.ensures.steps w.in_default.is-0 _
+          (YieldsList-from_slice_split _ (λ word. slash word.now) c.args.words.now c.split-parts.ensures.rest c.split-parts.ensures.done c.split-parts.ensures.closure (λ x b q k. search (rules, tests))))
+    ]
