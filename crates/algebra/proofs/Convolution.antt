@@ -7,7 +7,7 @@ use Rattle.std.proofs.lemmas.List.{get_or_past}
 use Rattle.std.proofs.lemmas.List.FromFn.{map-range_with_len_more}
 use Rattle.algebra.specs.Ring.{Semi}
 use Rattle.algebra.specs.Patterns.{Life, total, exactly}
-use Rattle.algebra.specs.Rows.{row, entry, convolution}
+use Rattle.algebra.specs.Rows.{row, entry_or_zero, convolution}
 use Rattle.algebra.proofs.Rows.{length_counting, get_or_counting}
 use Rattle.algebra.proofs.Semiring.{SemiLaws}
 use Rattle.algebra.proofs.Solver.{semiring, made}
@@ -18,13 +18,13 @@ map_counting_from : {X : Type 0} (f g : ℕ → X) → ((i : ℕ) → f (suc i) 
 map_counting_from f g e a zero = refl
 map_counting_from f g e a (suc n) = ap₂ ◌∷◌ (ap f (add-one a) ∙ e a) (map_counting_from f g e (a + 1) n)
 
--- A term of the convolution at k.
-abbrev pub term : {F : Type 0} → Semi F → List F → List F → ℕ → ℕ → F
-term s xs ys k i = s.times (entry s xs i) (entry s ys (k - i))
+-- A term of the convolution at k, from place i.
+abbrev pub product_at : {F : Type 0} → Semi F → List F → List F → ℕ → ℕ → F
+product_at s xs ys k i = s.times (entry_or_zero s xs i) (entry_or_zero s ys (k - i))
 
 -- The convolution at k without the terms from place i on.
 abbrev pub partial : {F : Type 0} → Semi F → List F → List F → ℕ → ℕ → F
-partial s xs ys i k = total s (map (term s xs ys k) (range_with_len 0 (min i (k + 1))))
+partial s xs ys i k = total s (map (product_at s xs ys k) (range_with_len 0 (min i (k + 1))))
 
 module _ {F : Type 0} {s : Semi F} (L : SemiLaws s) where
   -- The sum over i from 0 to k of f(i) · g(k − i).
@@ -63,7 +63,7 @@ module _ {F : Type 0} {s : Semi F} (L : SemiLaws s) where
       ∙ semiring L (g (suc k) ∷ []) (search made depth 40 fits 100000) tt
 
   -- The lives of two households, one list behind the other.
-  pub exactly_append : (ls ms : List (Life F)) (k : ℕ) → exactly s k (ls ++ ms) ≡ convolved (λ i. exactly s i ls) (λ i. exactly s i ms) k
+  exactly_append : (ls ms : List (Life F)) (k : ℕ) → exactly s k (ls ++ ms) ≡ convolved (λ i. exactly s i ls) (λ i. exactly s i ms) k
   exactly_append [] ms zero = sym (
       convolved_zero (λ i. exactly s i []) (λ i. exactly s i ms)
       ∙ ap (λ x. s.times x (exactly s 0 ms)) (exactly_zero_nil L)
@@ -92,7 +92,7 @@ module _ {F : Type 0} {s : Semi F} (L : SemiLaws s) where
       ∙ sym (convolved_suc (λ i. exactly s i (l ∷ ls)) g k)
 
   -- A household's own row, past its end too.
-  entry_row : (ls : List (Life F)) (i : ℕ) → entry s (row s (length ls + 1) ls) i ≡ exactly s i ls
+  entry_row : (ls : List (Life F)) (i : ℕ) → entry_or_zero s (row s (length ls + 1) ls) i ≡ exactly s i ls
   entry_row ls i = elim (cases_lt i (length ls + 1)) [
     | inl h ↦ get_or_counting (λ k. exactly s k ls) (length ls + 1) (row s (length ls + 1) ls) refl i s.zero h
     | inr h ↦ get_or_past (row s (length ls + 1) ls) i s.zero (omega (arith, h, length_counting (λ k. exactly s k ls) (length ls + 1) (row s (length ls + 1) ls) refl)) ∙ sym (exactly_beyond L i ls (omega (arith, h)))
@@ -102,7 +102,7 @@ module _ {F : Type 0} {s : Semi F} (L : SemiLaws s) where
   pub row_append : (ls ms : List (Life F)) (xs ys : List F) → xs ≡ row s (length ls + 1) ls → ys ≡ row s (length ms + 1) ms → (size : ℕ) → map (convolution s xs ys) (range_with_len 0 size) ≡ row s size (ls ++ ms)
   row_append ls ms xs ys first second size =
       ap (λ f. map f (range_with_len 0 size)) (fun_ext (λ k.
-      ap₂ (λ f g. convolved f g k) (fun_ext (λ i. ap (λ zs. entry s zs i) first ∙ entry_row ls i)) (fun_ext (λ i. ap (λ zs. entry s zs i) second ∙ entry_row ms i))
+      ap₂ (λ f g. convolved f g k) (fun_ext (λ i. ap (λ zs. entry_or_zero s zs i) first ∙ entry_row ls i)) (fun_ext (λ i. ap (λ zs. entry_or_zero s zs i) second ∙ entry_row ms i))
       ∙ sym (exactly_append ls ms k)))
 
   total_push : (xs : List F) (y : F) → total s (xs ++ (y ∷ [])) ≡ s.plus (total s xs) y
@@ -124,11 +124,11 @@ module _ {F : Type 0} {s : Semi F} (L : SemiLaws s) where
   module _ (xs ys : List F) (k : ℕ) where
     -- The first n terms.
     abbrev terms : ℕ → F
-    terms n = total s (map (term s xs ys k) (range_with_len 0 n))
+    terms n = total s (map (product_at s xs ys k) (range_with_len 0 n))
 
     -- A term more, up to the one at k.
-    pub partial_more : (i : ℕ) → i ≤ k → partial s xs ys (i + 1) k ≡ s.plus (partial s xs ys i k) (s.times (entry s xs i) (entry s ys (k - i)))
-    partial_more i h = ap terms (omega (arith, h)) ∙ total_more (term s xs ys k) i ∙ ap (λ n. s.plus (terms n) (term s xs ys k i)) (omega (arith, h))
+    pub partial_more : (i : ℕ) → i ≤ k → partial s xs ys (i + 1) k ≡ s.plus (partial s xs ys i k) (s.times (entry_or_zero s xs i) (entry_or_zero s ys (k - i)))
+    partial_more i h = ap terms (omega (arith, h)) ∙ total_more (product_at s xs ys k) i ∙ ap (λ n. s.plus (terms n) (product_at s xs ys k i)) (omega (arith, h))
 
     -- Past the term at k, and where the second row has no entry, nothing more.
     pub partial_past : (i : ℕ) → k < i → partial s xs ys (i + 1) k ≡ partial s xs ys i k
@@ -137,11 +137,11 @@ module _ {F : Type 0} {s : Semi F} (L : SemiLaws s) where
     pub partial_beyond : (i : ℕ) → i + length ys ≤ k → partial s xs ys (i + 1) k ≡ partial s xs ys i k
     partial_beyond i h =
         partial_more i (omega (arith, h))
-        ∙ ap (λ x. s.plus (partial s xs ys i k) (s.times (entry s xs i) x)) (get_or_past ys (k - i) s.zero (omega (arith, h)))
-        ∙ semiring L (partial s xs ys i k ∷ entry s xs i ∷ []) (search made depth 40 fits 100000) tt
+        ∙ ap (λ x. s.plus (partial s xs ys i k) (s.times (entry_or_zero s xs i) x)) (get_or_past ys (k - i) s.zero (omega (arith, h)))
+        ∙ semiring L (partial s xs ys i k ∷ entry_or_zero s xs i ∷ []) (search made depth 40 fits 100000) tt
 
     -- All terms: past the first row's end they are zero.
     pub partial_all : partial s xs ys (length xs) k ≡ convolution s xs ys k
-    partial_all = sym (total_zeros (term s xs ys k) (min (length xs) (k + 1)) (k + 1 - length xs) (k + 1) (omega arith) (λ j low high.
-        ap (λ x. s.times x (entry s ys (k - j))) (get_or_past xs j s.zero (omega (arith, low, high)))
-        ∙ semiring L (entry s ys (k - j) ∷ []) (search made depth 40 fits 100000) tt))
+    partial_all = sym (total_zeros (product_at s xs ys k) (min (length xs) (k + 1)) (k + 1 - length xs) (k + 1) (omega arith) (λ j low high.
+        ap (λ x. s.times x (entry_or_zero s ys (k - j))) (get_or_past xs j s.zero (omega (arith, low, high)))
+        ∙ semiring L (entry_or_zero s ys (k - j) ∷ []) (search made depth 40 fits 100000) tt))

@@ -10,9 +10,9 @@ row s size ls = map (λ k. exactly s k ls) (range_with_len 0 size)
 
 module _ {F : Type 0} (s : Semi F) where
   -- Entry i of a row; zero past the row's end.
-  abbrev pub entry : List F → ℕ → F
-  entry xs i = slice_index_or xs i s.zero
+  abbrev pub entry_or_zero : List F → ℕ → F
+  entry_or_zero xs i = slice_index_or xs i s.zero
 
   -- The sum, over i from 0 to k, of entry i of the first row times entry k − i of the second.
   abbrev pub convolution : List F → List F → ℕ → F
-  convolution xs ys k = total s (map (λ i. s.times (entry xs i) (entry ys (k - i))) (range_with_len 0 (k + 1)))
+  convolution xs ys k = total s (map (λ i. s.times (entry_or_zero xs i) (entry_or_zero ys (k - i))) (range_with_len 0 (k + 1)))

@@ -34,14 +34,14 @@ impl Refusal {
 }
 
 /// How many lives a row is for: one less than it has entries.
-fn lives<P: Copy>(row: &[P]) -> Result<usize, Refusal>
+fn lives_of<P: Copy>(row: &[P]) -> Result<usize, Refusal>
     ensures { MatchResult result (λ n. length row.now ≡ n + 1) (λ e. (e ≡ Refusal.EmptyRow) × (length row.now ≡ 0)) }
 {
     row.len().checked_sub(1).ok_or(Refusal::EmptyRow)
 }
 
 /// Adds to each entry of a row a factor times that of another, as long.
-fn add_multiple<F: Ring>(row: &mut [F::Plain], factor: F, other: &[F::Plain])
+fn add_products<F: Ring>(row: &mut [F::Plain], factor: F, other: &[F::Plain])
     requires { length other.now ≡ length row.old }
     ensures { (j : ℕ) (e : F.Plain) → j < length row.old → slice_index_or row.new j e ≡ F.Ring.plain (F.Ring.ops.plus (F.Ring.figure (slice_index_or row.old j e)) (F.Ring.ops.times factor (F.Ring.figure (slice_index_or other.now j e)))) }
 {
@@ -64,7 +64,7 @@ fn convolve<F: Ring>(first: &[F::Plain], second: &[F::Plain], row: &mut [F::Plai
     row.fill_with(|| zero);
     for (i, entry) in first.iter().enumerate() {
         let factor = F::from_plain(*entry);
-        add_multiple::<F>(&mut row[i..i + second.len()], factor, second);
+        add_products::<F>(&mut row[i..i + second.len()], factor, second);
     }
 }
 
@@ -90,7 +90,7 @@ pub fn households_row<F: Ring>(
         → IfOk result (λ _. output.new ≡ map F.Ring.plain (row (semi F.Ring.ops) (length ls + length ms + 1) (ls ++ ms)) ++ drop (length ls + length ms + 1) output.old) }
 {
     // Rows may be so long that the sum of their lengths fits no number.
-    let lives = lives(first)?.saturating_add(lives(second)?);
+    let lives = lives_of(first)?.saturating_add(lives_of(second)?);
     if lives > MOST {
         return Err(Refusal::TooManyTogether);
     }

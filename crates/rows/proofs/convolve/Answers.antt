@@ -19,9 +19,9 @@ loop-i-preserved g c =
     let second = c.args.second.now in
     let i = c.loop-i.i in
     up_to_more (laws_semi g.met.F.Ring.laws) figure g.F.Ring.plain first second (length c.fill_with.new.self) g.met.F.Ring.back i c.loop-i.row c.loop-i.invariant
-    c.from_plain-factor.result c.add_multiple.new.row (i + length second - i) (omega arith) (omega (arith, c.loop-i-test.true, c.requires, c.fill_with.ensures.len))
+    c.from_plain-factor.result c.add_products.new.row (i + length second - i) (omega arith) (omega (arith, c.loop-i-test.true, c.requires, c.fill_with.ensures.len))
     (read figure first i c.index-first-i.result c.from_plain-factor.result g.F.Ring.ops.zero c.index-first-i.is c.from_plain-factor.ensures c.loop-i-test.true)
-    c.add_multiple.auto.row c.add_multiple.ensures
+    c.add_products.auto.row c.add_products.ensures
 
 pub returns : goal.returns
 returns g c =

@@ -1,5 +1,5 @@
 use Rattle.std.proofs.Common.{◌≡◌, ℕ, ◌<◌, ◌≤◌, get_or}
-use Rattle.rows.proofs.add_multiple.Given as goal
+use Rattle.rows.proofs.add_products.Given as goal
 
 -- The places below j have their sums, and the others are as they were.
 abbrev pub invariant-loop-j : goal.invariant-loop-j
