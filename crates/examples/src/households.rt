@@ -90,7 +90,7 @@ fn one_life_and_two(rt: HostRuntime) {
     assert_eq!(rt; output, [10, 140, 490, 360, 7]);
 }
 
-/// The same rows of check figures, each also with the modulus added to its figures. What lies behind the row stays past it.
+/// The same rows of check figures, each also with the modulus added to its figures. Entries behind the row stay, though past the modulus.
 #[test]
 fn rows_past_the_modulus(rt: HostRuntime) {
     for first in [[1, 9], [2147483648, 2147483656]] {
@@ -262,7 +262,7 @@ where
     );
 }
 
-/// Both, over a kind, with four tables.
+/// Both comparisons, at every size, over a kind. The room is cut into four tables.
 fn all_sizes<F: Ring>(
     rt: &impl Abort,
     slip: &Slip,

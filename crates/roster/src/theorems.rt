@@ -25,9 +25,10 @@ pub fn waring_sums_hold<F: Ring>()
     ensures at_least_none { (d : F) (ps : List F) → at_least (semi F.Ring.ops) 0 (against F.Ring.ops d ps) ≡ power F.Ring.ops d (length ps) }
 {}
 
-/// Two rosters with the same whole: what `rows::households_row` makes of their rows, each as a composed row left it at the
-/// front of any table, is the composed row of a roster of all their lives, and a short output is refused as there. (No
-/// roster has over 64 lives.)
+/// Two rosters with the same whole: from their rows, each as a composed row leaves it at the front of any table, the row of
+/// two households is answered as the composed row of a roster of all their lives, the first's before the second's, and a
+/// short output is refused as there. (No roster has over 64 lives.) How it is answered says the definition that clause
+/// `answered` of `rows::households_row` cites.
 pub fn households_make_one_roster<F: Ring>()
     ensures { (l m both : Ledger F) (t u output : List F.Plain) → m.whole ≡ l.whole → both.whole ≡ l.whole → both.lives ≡ l.lives ++ m.lives → length both.lives ≤ 64
         → households_or (households (semi F.Ring.ops) F.Ring.figure F.Ring.plain

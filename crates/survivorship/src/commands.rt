@@ -12,8 +12,7 @@ use rows::households_row;
 use std::alloc::Global;
 use text::Unanswered::{self, NotUnderstood};
 use text::{
-    Typed, around_slash, fields_text, filled, hex_bytes, plain_forms, short_number, size,
-    table_text,
+    Typed, around_slash, fields_text, filled, hex_bytes, short_number, size, table_text, typed_list,
 };
 
 pub fn obey(heap: Global, words: &[&[u8]]) -> Result<String, Unanswered> {
@@ -22,7 +21,7 @@ pub fn obey(heap: Global, words: &[&[u8]]) -> Result<String, Unanswered> {
         [b"money", entries, lives @ ..] => money_command(heap, entries, lives),
         [b"factor", k, entries, lives @ ..] => factor_command(heap, k, entries, lives),
         [b"exchangeable", m, entries, table @ ..] => exchangeable_command(heap, m, entries, table),
-        [b"households", kind, entries, rows @ ..] => households(heap, kind, entries, rows),
+        [b"households", kind, entries, rows @ ..] => households_command(heap, kind, entries, rows),
         _ => Err(NotUnderstood),
     }
 }
@@ -37,7 +36,7 @@ fn unpack_command(heap: Global, hex: &[u8]) -> Result<String, Unanswered> {
 /// money ENTRIES P P ..
 fn money_command(heap: Global, entries: &[u8], lives: &[&[u8]]) -> Result<String, Unanswered> {
     let entries = size(entries).ok_or(NotUnderstood)?;
-    let lives = plain_forms(heap, lives)?;
+    let lives = typed_list(heap, lives)?;
     let mut row = filled(heap, 0u64, entries)?;
     money_row(&lives, &mut row)?;
     Ok(table_text(heap, &row)?)
@@ -52,7 +51,7 @@ fn factor_command(
 ) -> Result<String, Unanswered> {
     let k = short_number(k).ok_or(NotUnderstood)?;
     let entries = size(entries).ok_or(NotUnderstood)?;
-    let lives = plain_forms(heap, lives)?;
+    let lives = typed_list(heap, lives)?;
     let mut work = filled(heap, 0u64, entries)?;
     Ok(factor(&lives, k, &mut work)?.to_string(heap)?)
 }
@@ -66,14 +65,14 @@ fn exchangeable_command(
 ) -> Result<String, Unanswered> {
     let m = short_number(m).ok_or(NotUnderstood)?;
     let entries = size(entries).ok_or(NotUnderstood)?;
-    let table = plain_forms(heap, table)?;
+    let table = typed_list(heap, table)?;
     let mut row = filled(heap, 0u64, entries)?;
     exchangeable_row(&table, m, &mut row)?;
     Ok(table_text(heap, &row)?)
 }
 
 /// households KIND ENTRIES FIGURE FIGURE .. / FIGURE FIGURE ..
-fn households(
+fn households_command(
     heap: Global,
     kind: &[u8],
     entries: &[u8],
@@ -81,18 +80,18 @@ fn households(
 ) -> Result<String, Unanswered> {
     // A kind is a type, which no value can name, so each has its arm.
     match kind {
-        b"word" => households_command::<Word>(heap, entries, rows),
-        b"check" => households_command::<Residue>(heap, entries, rows),
-        b"scenario" => households_command::<Scenarios>(heap, entries, rows),
-        b"slope-word" => households_command::<Dual<Word>>(heap, entries, rows),
-        b"slope-check" => households_command::<Dual<Residue>>(heap, entries, rows),
-        b"slope-scenario" => households_command::<Dual<Scenarios>>(heap, entries, rows),
+        b"word" => households_over::<Word>(heap, entries, rows),
+        b"check" => households_over::<Residue>(heap, entries, rows),
+        b"scenario" => households_over::<Scenarios>(heap, entries, rows),
+        b"slope-word" => households_over::<Dual<Word>>(heap, entries, rows),
+        b"slope-check" => households_over::<Dual<Residue>>(heap, entries, rows),
+        b"slope-scenario" => households_over::<Dual<Scenarios>>(heap, entries, rows),
         _ => Err(NotUnderstood),
     }
 }
 
 /// The row of two households, from figures of a kind.
-fn households_command<F: Ring>(
+fn households_over<F: Ring>(
     heap: Global,
     entries: &[u8],
     rows: &[&[u8]],
@@ -101,9 +100,9 @@ where
     F::Plain: Typed,
 {
     let (first, second) = around_slash(rows).ok_or(NotUnderstood)?;
-    let first = plain_forms(heap, first)?;
-    let second = plain_forms(heap, second)?;
     let mut row = zeros::<F>(heap, entries)?;
+    let first = typed_list(heap, first)?;
+    let second = typed_list(heap, second)?;
     households_row::<F>(&first, &second, &mut row)?;
     Ok(table_text(heap, &row)?)
 }

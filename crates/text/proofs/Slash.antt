@@ -4,7 +4,7 @@ use Rattle.std.specs.List.{slice_split, onto_first}
 use Rattle.std.specs.Iterator.{AlwaysYields}
 use Rattle.std.specs.Option.{option_map}
 use Rattle.std.proofs.lemmas.Iterator.{YieldsList}
-use Rattle.text.specs.Text.{slash, only_two, around_slash}
+use Rattle.text.specs.Text.{is_slash, only_two, around_slash}
 
 module _ {X Y : Type 0} (f : X → Y) where
   split_map : (p : Y → Bool) (xs : List X) → slice_split p (map f xs) ≡ map (map f) (slice_split (λ x. p (f x)) xs)
@@ -24,11 +24,11 @@ module _ {X Y : Type 0} (f : X → Y) where
   only_two_map (x ∷ y ∷ z ∷ more) = refl
 
 -- The parts of words that are lent, and what parting their bytes gives.
-pub around : (words : List (Bor (List ℕ))) (o : Option (List (Bor (List ℕ)) × List (Bor (List ℕ)))) → only_two (slice_split (λ word. slash word.now) words) ≡ o
+pub around : (words : List (Bor (List ℕ))) (o : Option (List (Bor (List ℕ)) × List (Bor (List ℕ)))) → only_two (slice_split (λ word. is_slash word.now) words) ≡ o
     → option_map (λ parts. (map (λ word. word.now) parts.0, map (λ word. word.now) parts.1)) o ≡ around_slash (map (λ word. word.now) words)
 around words o e =
     ap (option_map (λ parts. (map (λ word. word.now) parts.0, map (λ word. word.now) parts.1))) (sym e)
-    ∙ sym (ap only_two (split_map (λ word. word.now) slash words) ∙ only_two_map (map (λ word. word.now)) (slice_split (λ word. slash word.now) words))
+    ∙ sym (ap only_two (split_map (λ word. word.now) is_slash words) ∙ only_two_map (map (λ word. word.now)) (slice_split (λ word. is_slash word.now) words))
 
 -- The results a, b and c of three calls, from the states s, t and u.
 module _ {S A B : Type 0} (steps : S → Option A → S → Type 0) (v : A → B) (s t u w : S) (a b c : Option A) (first : steps s a t) (second : steps t b u) (third : steps u c w) where

@@ -149,11 +149,12 @@ abbrev pub commands : List ℕ → List (List (List ℕ))
 commands input = filter is_command (map words_of (slice_split (λ c. c == 10) input))
 
 -- A word that is a slash and nothing else.
-abbrev pub slash : List ℕ → Bool
-slash [] = false
-slash (c ∷ []) = c == 47
-slash (c ∷ d ∷ cs) = false
+abbrev pub is_slash : List ℕ → Bool
+is_slash [] = false
+is_slash (c ∷ []) = c == 47
+is_slash (c ∷ d ∷ cs) = false
 
+-- Both of a list of two; none for any other list.
 abbrev pub only_two : {X : Type 0} → List X → Option (X × X)
 only_two [] = None
 only_two (x ∷ []) = None
@@ -162,4 +163,4 @@ only_two (x ∷ y ∷ z ∷ more) = None
 
 -- The words before the only slash, and those behind it; none where there is no slash, or more than one.
 abbrev pub around_slash : List (List ℕ) → Option (List (List ℕ) × List (List ℕ))
-around_slash words = only_two (slice_split slash words)
+around_slash words = only_two (slice_split is_slash words)

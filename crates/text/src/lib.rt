@@ -13,6 +13,6 @@ pub use answers::{done, filled, outcome_text, table_text};
 pub use bytes::{Hex, echo_words, fields_text, hex_bytes};
 pub use numbers::{short_number, size};
 pub use theorems::{bytes_and_refusals_are_as_defined, plain_forms_are_as_defined};
-pub use typed::{Typed, plain_forms};
+pub use typed::{Typed, typed_list};
 pub use unanswered::{Refusal, Unanswered};
 pub use words::{Lines, around_slash};

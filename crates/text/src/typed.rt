@@ -81,8 +81,8 @@ fn first_colon(word: &[u8]) -> Option<usize>
     word.iter().position(|b| *b == b':')
 }
 
-/// The plain forms that words write.
-pub fn plain_forms<P: Typed>(heap: Global, words: &[&[u8]]) -> Result<Vec<P>, Unanswered>
+/// The list that words write, each as its type is typed.
+pub fn typed_list<P: Typed>(heap: Global, words: &[&[u8]]) -> Result<Vec<P>, Unanswered>
     ensures read { IfOk result (λ v. map Some v.items ≡ map (λ word. P.Typed.reads word.now) words.now) }
     ensures wrong { Any (λ word. P.Typed.reads word.now ≡ None) words.now → result ≡ Err NotUnderstood }
     ensures unread { IfErr result (FailsOnlyWhere (Any (λ word. P.Typed.reads word.now ≡ None) words.now)) }
@@ -91,9 +91,9 @@ pub fn plain_forms<P: Typed>(heap: Global, words: &[&[u8]]) -> Result<Vec<P>, Un
     if words.iter().any(|word| P::read(word).is_none()) {
         return Err(Unanswered::NotUnderstood);
     }
-    let mut forms = Vec::new(heap);
+    let mut list = Vec::new(heap);
     for word in words {
-        forms.push(P::read(word).ok_or(Unanswered::NotUnderstood)?)?;
+        list.push(P::read(word).ok_or(Unanswered::NotUnderstood)?)?;
     }
-    Ok(forms)
+    Ok(list)
 }

@@ -2,7 +2,7 @@
 ghost use Rattle.std.specs.Prelude.{◌≡◌, ◌<◌, ◌≤◌, [], ◌∷◌, map, length, IfOk, IfSome, IfNone, OnSome, MatchOption};
 ghost use Rattle.std.specs.Option.{option_map};
 ghost use Rattle.text.specs.Reading.{left};
-ghost use Rattle.text.specs.Text.{words_of, slash, around_slash, newline_at, first_line, other_lines, is_command, commands};
+ghost use Rattle.text.specs.Text.{words_of, is_slash, around_slash, newline_at, first_line, other_lines, is_command, commands};
 
 use crate::bytes::is_blank;
 use std::alloc::{AllocError, Global};
@@ -81,7 +81,7 @@ fn newline(text: &[u8]) -> Option<usize>
 }
 
 fn is_slash(word: &[u8]) -> bool
-    ensures { result ≡ slash word.now }
+    ensures { result ≡ is_slash word.now }
 {
     matches!(word, [b'/'])
 }
