@@ -1,9 +1,4 @@
 //! The commands that need no roster.
-ghost use Rattle.std.specs.Prelude.{◌≡◌, Some, None, replicate, IfErr, IfOk};
-ghost use Rattle.std.specs.Option.{option_map};
-ghost use Rattle.text.specs.Text.{number_within};
-ghost use Rattle.text.specs.Understood.{FailsOnlyWhere};
-
 use exchangeable::exchangeable_row;
 use figures::{Dual, Residue, Ring, Scenarios, Word};
 use money::{factor, money_row};
@@ -99,21 +94,11 @@ fn households_over<F: Ring>(
 where
     F::Plain: Typed,
 {
+    let entries = size(entries).ok_or(NotUnderstood)?;
     let (first, second) = around_slash(rows).ok_or(NotUnderstood)?;
-    let mut row = zeros::<F>(heap, entries)?;
     let first = typed_list(heap, first)?;
     let second = typed_list(heap, second)?;
+    let mut row = filled(heap, F::zero().to_plain(), entries)?;
     households_row::<F>(&first, &second, &mut row)?;
     Ok(table_text(heap, &row)?)
-}
-
-/// A table of zeros, of as many entries as a word says.
-pub fn zeros<F: Ring>(heap: Global, entries: &[u8]) -> Result<Vec<F::Plain>, Unanswered>
-where
-    F::Plain: Typed,
-    ensures read { IfOk result (λ table. option_map (λ n. replicate n (F.Ring.plain F.Ring.ops.zero)) (number_within 1000 entries.now) ≡ Some table.items) }
-    ensures unread { IfErr result (FailsOnlyWhere (number_within 1000 entries.now ≡ None)) }
-{
-    let entries = size(entries).ok_or(NotUnderstood)?;
-    Ok(filled(heap, F::zero().to_plain(), entries)?)
 }

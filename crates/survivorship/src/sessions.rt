@@ -1,10 +1,11 @@
 //! Commands to a roster, from `open` to `close` or the end of the input.
-ghost use Rattle.std.specs.Prelude.{◌≡◌, ◌≤◌, Some, None, IfErr, IfOk};
+ghost use Rattle.std.specs.Prelude.{◌≡◌, ◌≤◌, Some, None, replicate, IfErr, IfOk};
 ghost use Rattle.std.specs.Option.{option_map};
 ghost use Rattle.text.specs.Reading.{left};
 ghost use Rattle.text.specs.Text.{number_within};
+ghost use Rattle.text.specs.Understood.{FailsOnlyWhere};
 
-use crate::commands::{obey, zeros};
+use crate::commands::obey;
 use crate::console::Console;
 use figures::{Dual, Packable, Residue, Ring, Scenarios, Word};
 use reply::asked;
@@ -176,4 +177,15 @@ where
 {
     let figure = F::Plain::read(word).ok_or(NotUnderstood)?;
     Ok(F::from_plain(figure))
+}
+
+/// A table of zeros, of as many entries as a word says.
+fn zeros<F: Packable>(heap: Global, entries: &[u8]) -> Result<Vec<F::Plain>, Unanswered>
+where
+    F::Plain: Typed,
+    ensures read { IfOk result (λ table. option_map (λ n. replicate n (F.Ring.plain F.Ring.ops.zero)) (number_within 1000 entries.now) ≡ Some table.items) }
+    ensures unread { IfErr result (FailsOnlyWhere (number_within 1000 entries.now ≡ None)) }
+{
+    let entries = size(entries).ok_or(NotUnderstood)?;
+    Ok(filled(heap, F::zero().to_plain(), entries)?)
 }
