@@ -1,5 +1,5 @@
 -- Survival patterns, their weights, and sums over them.
-use Rattle.std.specs.Prelude.{ℕ, zero, suc, ◌+◌, ◌*◌, Bool, true, false, cond, List, [], ◌∷◌, ◌++◌, map, length, nat_eq, nat_le}
+use Rattle.std.specs.Prelude.{ℕ, zero, suc, ◌+◌, ◌-◌, ◌*◌, Bool, true, false, cond, List, [], ◌∷◌, ◌++◌, map, length, nat_eq, nat_le}
 use Rattle.algebra.specs.Ring.{Semi}
 
 -- A life by its two worths: the factor that it brings where it is alive, and where it is dead.
@@ -49,3 +49,7 @@ module _ {F : Type 0} (s : Semi F) where
 -- Ordinary whole numbers.
 abbrev pub naturals : Semi ℕ
 naturals = record { zero = 0; one = 1; plus = ◌+◌; times = ◌*◌ }
+
+-- The lives ps against the whole d, in ordinary whole numbers: p where alive, d − p where dead.
+abbrev pub natural_lives : ℕ → List ℕ → List (Life ℕ)
+natural_lives d ps = map (λ p. record { alive = p; dead = d - p }) ps

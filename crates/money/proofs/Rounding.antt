@@ -5,7 +5,8 @@ use Rattle.std.specs.List.{AllByRecursion}
 use Rattle.algebra.proofs.Each.{each_append}
 use Rattle.std.proofs.lemmas.List.{append_assoc, append-nil, map-append, drop_all}
 use Rattle.algebra.specs.Patterns.{Life, naturals, total, at_least}
-use Rattle.algebra.proofs.Patterns.{at_least_suc_nil, at_least_zero_cons, at_least_suc_cons, at_least_suc_at}
+use Rattle.algebra.proofs.Patterns.{at_least_suc_nil, at_least_suc_cons, at_least_suc_at}
+use Rattle.algebra.proofs.Naturals.{all_patterns}
 use Rattle.algebra.proofs.Semiring.{naturals_laws}
 use Rattle.algebra.proofs.Solver.{semiring, made}
 use Rattle.money.specs.Money.{pass, whole, with_life, money_row, factor_of, exact, Near}
@@ -108,13 +109,6 @@ exact_more ls p k =
     ∙ at_least_suc_at naturals_laws (life p) (map life ls) [] k
     ∙ ap (λ zs. p * at_least naturals k zs + (whole - p) * at_least naturals (suc k) zs) (append-nil (map life ls))
 
-exact_zero : (ls : List ℕ) → AllByRecursion (λ p. p ≤ whole) ls → exact ls 0 ≡ whole ^ length ls
-exact_zero [] h = refl
-exact_zero (p ∷ ls) h =
-    let e : p + (whole - p) ≡ whole = omega (arith, h.0) in
-    at_least_zero_cons naturals_laws (life p) (map life ls)
-    ∙ ap₂ ◌*◌ e (exact_zero ls h.1) ∙ sym (pow-succ' whole (length ls))
-
 -- How long rows are, and that they add up to D.
 length_pass : (p b c : ℕ) (xs : List ℕ) → length (pass p b c xs) ≡ length xs
 length_pass p b c [] = refl
@@ -156,7 +150,7 @@ good_more ls row p le all some g = ((with_sum p le row g.0).0, near)
 
     near : (k : ℕ) → Near (length (ls ++ p ∷ [])) (exact (ls ++ p ∷ []) k) (sum (drop k (with_life row p)))
     near zero =
-        near_all_patterns (length (ls ++ p ∷ [])) _ _ (exact_zero (ls ++ p ∷ []) (each_append (λ x. x ≤ whole) ls (p ∷ []) all (le, tt)))
+        near_all_patterns (length (ls ++ p ∷ [])) _ _ (all_patterns whole (ls ++ p ∷ []) (each_append (λ x. x ≤ whole) ls (p ∷ []) all (le, tt)))
         (with_sum p le row g.0).0
     near (suc k) =
         let t = with_tail p le row g.0 k in
@@ -183,7 +177,7 @@ good_first : (p : ℕ) → p ≤ whole → Good (p ∷ []) (with_life (whole ∷
 good_first p le = ((with_sum p le (whole ∷ []) refl).0, near)
   where
     near : (k : ℕ) → Near 1 (exact (p ∷ []) k) (sum (drop k (with_life (whole ∷ []) p)))
-    near zero = near_all_patterns 1 _ _ (exact_zero (p ∷ []) (le, tt)) (with_sum p le (whole ∷ []) refl).0
+    near zero = near_all_patterns 1 _ _ (all_patterns whole (p ∷ []) (le, tt)) (with_sum p le (whole ∷ []) refl).0
     near (suc zero) =
         let t = with_tail p le (whole ∷ []) refl 0 in
         near_same _ _

@@ -1,6 +1,6 @@
 -- The money row, the factor, and how close the factor lies to the exact sum.
-use Rattle.std.specs.Prelude.{ℕ, ◌+◌, ◌-◌, ◌*◌, ◌/◌, ◌%◌, ◌^◌, ◌≤◌, List, [], ◌∷◌, ◌++◌, map, drop, fold}
-use Rattle.algebra.specs.Patterns.{naturals, total, at_least}
+use Rattle.std.specs.Prelude.{ℕ, ◌+◌, ◌-◌, ◌*◌, ◌/◌, ◌%◌, ◌^◌, ◌≤◌, List, [], ◌∷◌, ◌++◌, drop, fold}
+use Rattle.algebra.specs.Patterns.{naturals, natural_lives, total, at_least}
 
 -- D: a life p from 0 to D stands for the chance p / D.
 abbrev pub whole : ℕ
@@ -28,7 +28,7 @@ factor_of lives k = total naturals (drop k (money_row lives))
 -- The exact sum, in ordinary whole numbers, over the patterns with at least k alive: a life is worth p where it is
 -- alive and D − p where it is dead.
 abbrev pub exact : List ℕ → ℕ → ℕ
-exact lives k = at_least naturals k (map (λ p. record { alive = p; dead = whole - p }) lives)
+exact lives k = at_least naturals k (natural_lives whole lives)
 
 -- X·D ≤ F·D^n ≤ X·D + (n − 1)·D^n. With no lives n − 1 stops at 0, so that F is X·D.
 abbrev pub Near : ℕ → ℕ → ℕ → Type 0

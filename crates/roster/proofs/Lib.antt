@@ -8,7 +8,6 @@ pub mod QuestionsRead
 pub mod QuestionsSums
 pub mod WaysTable
 pub mod RowsComposed
-pub mod RowsTable
 pub mod RowsTriangle
 pub mod Runs
 pub mod Sums
