@@ -1,0 +1,3 @@
+pub mod Floats
+pub mod Powers
+pub mod Counting
