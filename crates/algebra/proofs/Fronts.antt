@@ -1,8 +1,8 @@
 -- Tables whose front is a row in plain form.
-use Rattle.std.proofs.Common.{◌≡◌, ℕ, ◌+◌, ◌-◌, ◌<◌, List, [], ◌∷◌, ◌++◌, map, length, get_or, take, drop, set, sym, refl, ap, ◌∙◌, ap₂, append_assoc, append-nil, zero-add, arith, length-drop}
+use Rattle.std.proofs.Common.{◌≡◌, ℕ, ◌+◌, ◌<◌, List, [], ◌∷◌, ◌++◌, map, length, get_or, take, drop, set, sym, ap, ◌∙◌, ap₂, append_assoc, zero-add, arith}
 use Rattle.std.specs.List.{range_with_len}
 use Rattle.std.proofs.lemmas.List.FromFn.{length-map-range_with_len, map-range_with_len_more}
-use Rattle.std.proofs.lemmas.List.{length-map, length-take-le, set_at, drop_all, drop_at, drop_more, map_more, map_push, take_all, take_at}
+use Rattle.std.proofs.lemmas.List.{length-map, length-take-le, set_at, drop_at, drop_more, map_more, map_push, take_all, take_at}
 use Rattle.algebra.specs.Ring.{Semi}
 use Rattle.algebra.specs.Patterns.{Life, exactly}
 use Rattle.algebra.specs.Rows.{row}
@@ -13,11 +13,6 @@ use Rattle.algebra.proofs.Composition.{compose, compose_row}
 module _ {F P : Type 0} (plain : F → P) where
   pub length_row : (f : ℕ → F) (m : ℕ) → length (map plain (map f (range_with_len 0 m))) ≡ m
   length_row f m = length-map (map f (range_with_len 0 m)) plain ∙ length-map-range_with_len f 0 m
-
-  -- The figures that the entries stand for.
-  pub figures_back : (figure : P → F) → ((x : F) → figure (plain x) ≡ x) → (xs : List F) → map figure (map plain xs) ≡ xs
-  figures_back figure back [] = refl
-  figures_back figure back (x ∷ xs) = ap₂ ◌∷◌ (back x) (figures_back figure back xs)
 
   -- The entry that is due after a row's end makes it a row with one entry more.
   pub row_push : (f : ℕ → F) (m : ℕ) (w : P) (rest : List P) → w ≡ plain (f m) → map plain (map f (range_with_len 0 m)) ++ (w ∷ rest) ≡ map plain (map f (range_with_len 0 (m + 1))) ++ rest
@@ -30,13 +25,7 @@ module _ {F P : Type 0} (plain : F → P) where
       → set table m w ≡ map plain (map f (range_with_len 0 (m + 1))) ++ rest
   grow_row f m old rest table w is e = ap (λ t. set t m w) is ∙ set_at (map plain (map f (range_with_len 0 m))) old rest w m (length_row f m) ∙ row_push f m w rest e
 
--- A list that is written from place i on.
-pub written_from : {X : Type 0} (xs new : List X) (i : ℕ) → take i xs ++ (new ++ drop (length xs - i) (drop i xs)) ≡ take i xs ++ new
-written_from xs new i =
-    let none : drop (length xs - i) (drop i xs) ≡ [] = drop_all (length xs - i) (drop i xs) (omega (arith, length-drop i xs)) in
-    ap (λ ys. take i xs ++ ys) (ap (λ ys. new ++ ys) none ∙ append-nil new)
-
--- A table that begins with the row of i lives, and goes on as another did.
+-- A table that begins with the entries 0 to i of the row of lives, and goes on as another did.
 abbrev pub Begun : {F P : Type 0} → Semi F → (F → P) → ℕ → List (Life F) → List P → List P → Type 0
 Begun s plain i ls before table = table ≡ map plain (row s (i + 1) ls) ++ drop (i + 1) before
 

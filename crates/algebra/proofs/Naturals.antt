@@ -2,7 +2,7 @@
 use Rattle.std.proofs.Common.{◌≡◌, ℕ, zero, suc, ◌+◌, ◌-◌, ◌*◌, ◌^◌, ◌≤◌, List, [], ◌∷◌, length, sym, ◌∙◌, ap₂, arith}
 use native.Mathlib.Nat.{pow-zero, pow-succ'}
 use Rattle.std.specs.List.{AllByRecursion}
-use Rattle.algebra.specs.Patterns.{Life, naturals, natural_lives, exactly, at_least}
+use Rattle.algebra.specs.Patterns.{Life, naturals, natural_life, natural_lives, exactly, at_least}
 use Rattle.algebra.proofs.Semiring.{naturals_laws}
 use Rattle.algebra.proofs.Patterns.{at_least_zero_cons, at_least_split}
 
@@ -11,7 +11,7 @@ pub all_patterns : (d : ℕ) (ps : List ℕ) → AllByRecursion (λ p. p ≤ d) 
 all_patterns d [] h = sym (pow-zero d)
 all_patterns d (p ∷ ps) h =
     let e : p + (d - p) ≡ d = omega (arith, h.0) in
-    at_least_zero_cons naturals_laws (record { alive = p; dead = d - p }) (natural_lives d ps)
+    at_least_zero_cons naturals_laws (natural_life d p) (natural_lives d ps)
     ∙ ap₂ ◌*◌ e (all_patterns d ps h.1) ∙ sym (pow-succ' d (length ps))
 
 -- Those with at least k alive are among them, and those with exactly k among these.

@@ -50,6 +50,9 @@ module _ {F : Type 0} (s : Semi F) where
 abbrev pub naturals : Semi ℕ
 naturals = record { zero = 0; one = 1; plus = ◌+◌; times = ◌*◌ }
 
--- The lives ps against the whole d, in ordinary whole numbers: p where alive, d − p where dead.
+-- A life p against the whole d, in ordinary whole numbers, and a list of them: p where alive, d − p where dead.
+abbrev pub natural_life : ℕ → ℕ → Life ℕ
+natural_life d p = record { alive = p; dead = d - p }
+
 abbrev pub natural_lives : ℕ → List ℕ → List (Life ℕ)
-natural_lives d ps = map (λ p. record { alive = p; dead = d - p }) ps
+natural_lives d ps = map (natural_life d) ps

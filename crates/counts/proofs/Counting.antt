@@ -1,25 +1,25 @@
 -- The row, worked in floats: one life after the other, and nothing is lost.
-use Rattle.std.proofs.Common.{◌≡◌, ℕ, zero, suc, ◌+◌, ◌-◌, ◌*◌, ◌^◌, ◌<◌, ◌≤◌, pos, false, nat_lt, nat_eq, ◌||◌, None, Ok, inl, inr, List, [], ◌∷◌, ◌++◌, map, length, get_or, take, refl, sym, ap, ◌∙◌, ap₂, subst, arith, le_trans, length-take}
-use Rattle.std.specs.List.{All, AllByRecursion, position_or_len, range_with_len}
+use Rattle.std.proofs.Common.{◌≡◌, ℕ, ◌+◌, ◌-◌, ◌*◌, ◌^◌, ◌<◌, ◌≤◌, pos, false, nat_lt, nat_eq, ◌||◌, None, Ok, inl, inr, List, [], ◌∷◌, ◌++◌, map, length, get_or, take, refl, sym, ap, ◌∙◌, ap₂, subst, arith, le_trans, length-take}
+use Rattle.std.specs.List.{AllByRecursion, position_or_len}
 use Rattle.std.specs.Float.{Float, binary64, float_zero}
 use lib.Ieee.{of_int}
 use Rattle.std.proofs.lemmas.Bool.{cases_lt, le-ltb, ltb-false, ne_eqb}
 use Rattle.std.proofs.lemmas.Grind.{common_steps}
-use Rattle.std.proofs.lemmas.List.{get_or_past, get_or-map, length-map, map_more, take_at}
+use Rattle.std.proofs.lemmas.List.{get_or_past, get_or-map, get_or-take, length-map, map_more, take_at}
 use Rattle.std.proofs.lemmas.List.FromFn.{get_or-map-range_with_len, length-map-range_with_len}
 use Rattle.std.proofs.lemmas.List.Sums.{fails_before_first}
-use Rattle.std.proofs.lemmas.List.Elements.{All-from_get_or, All-take, recursion_from_All}
 use native.Mathlib.Nat.{pow-le-pow_right}
-use Rattle.algebra.specs.Patterns.{Life, naturals, natural_lives, exactly}
+use Rattle.algebra.specs.Patterns.{Life, naturals, natural_life, natural_lives, exactly}
+use Rattle.algebra.proofs.Each.{each_counting, each_taken}
 use Rattle.algebra.specs.Rows.{row}
 use Rattle.algebra.proofs.Composition.{compose, compose_row}
 use Rattle.algebra.proofs.Fronts.{length_row}
 use Rattle.algebra.proofs.Patterns.{exactly_beyond}
 use Rattle.algebra.proofs.Naturals.{exactly_within}
 use Rattle.algebra.proofs.Semiring.{naturals_laws}
-use Rattle.counts.specs.Answer.{Admitted, above, answer, most, worked}
-use Rattle.counts.specs.Floats.{float, floats}
-use Rattle.counts.proofs.Floats.{sum_exact, product_exact, cast_exact, float_zero_is}
+use Rattle.counts.specs.Answer.{Admitted, Exact, above, answer, most, worked}
+use Rattle.counts.specs.Floats.{IsExactly, float, floats}
+use Rattle.counts.proofs.Floats.{float_value, sum_exact, product_exact, cast_exact, float_zero_is}
 
 -- One pass over floats that are whole numbers: where what it gives is at most 2^53, each product is, and each sum.
 pub compose_exact : (a b below : ℕ) (xs : List ℕ) → AllByRecursion (λ n. n ≤ most) (compose naturals (record { alive = a; dead = b }) below xs)
@@ -30,11 +30,7 @@ compose_exact a b below (x ∷ xs) h =
     (ap₂ floats.plus (product_exact a below (omega (arith, h.0))) (product_exact b x (omega (arith, h.0))) ∙ sum_exact (a * below) (b * x) h.0)
     (compose_exact a b x xs h.1)
 
-each_counting : (P : ℕ → Type 0) (f : ℕ → ℕ) → ((k : ℕ) → P (f k)) → (i n : ℕ) → AllByRecursion P (map f (range_with_len i n))
-each_counting P f h i zero = tt
-each_counting P f h i (suc n) = (h i, each_counting P f h (i + 1) n)
-
--- The entries of a row of some of the lives are at most 2^53, where the power is.
+-- The entries of a row are at most 2^53, where the power for its lives is.
 pub row_within : (d size : ℕ) (ps : List ℕ) → AllByRecursion (λ p. p ≤ d) ps → d ^ length ps ≤ most → AllByRecursion (λ n. n ≤ most) (row naturals size (natural_lives d ps))
 row_within d size ps h small = each_counting (λ n. n ≤ most) (λ k. exactly naturals k (natural_lives d ps)) (λ k. omega (arith, exactly_within d ps k h)) 0 size
 
@@ -44,27 +40,20 @@ none_above d ps none i h =
     let past : length ps ≤ position_or_len (nat_lt d) ps = grind (arith, common_steps) in
     ltb-false d (get_or ps i 0) (fails_before_first (nat_lt d) ps i 0 (omega arith))
 
--- A life against the whole.
-abbrev pub against : ℕ → ℕ → Life ℕ
-against d p = record { alive = p; dead = d - p }
-
 module _ (d : ℕ) (ps : List ℕ) (none : above d ps ≡ None) where
-  each_within : All (λ p. p ≤ d) ps
-  each_within = All-from_get_or (λ p. p ≤ d) ps 0 (none_above d ps none)
-
-  -- A life more loses nothing: the power for all of them is above every entry on the way.
-  pub pass_exact : (i : ℕ) → 0 < d → d ^ length ps ≤ most → i < length ps
-      → (alive dead : Float) → alive ≡ of_int binary64 (pos (get_or ps i 0)) → dead ≡ of_int binary64 (pos (d - get_or ps i 0)) → d ≤ most
+  -- A life more loses nothing: no entry on the way is above the power for all of them.
+  pub pass_exact : (i : ℕ) → 0 < d → d ≤ most → d ^ length ps ≤ most → i < length ps
+      → (alive dead : Float) → alive ≡ of_int binary64 (pos (get_or ps i 0)) → dead ≡ of_int binary64 (pos (d - get_or ps i 0))
       → compose floats (record { alive = alive; dead = dead }) float_zero (map float (row naturals (i + 1 + 1) (natural_lives d (take i ps))))
-      ≡ map float (compose naturals (against d (get_or ps i 0)) 0 (row naturals (i + 1 + 1) (natural_lives d (take i ps))))
-  pass_exact i some small inside alive dead is-alive is-dead few =
+      ≡ map float (compose naturals (natural_life d (get_or ps i 0)) 0 (row naturals (i + 1 + 1) (natural_lives d (take i ps))))
+  pass_exact i some few small inside alive dead is-alive is-dead =
       let p = get_or ps i 0 in
-      let l = against d p in
+      let l = natural_life d p in
       let ls = natural_lives d (take i ps) in
       let fewer = take (i + 1) ps in
-      let joined : ls ++ (l ∷ []) ≡ natural_lives d fewer = sym (map_more (against d) ps i 0 inside) in
+      let joined : ls ++ (l ∷ []) ≡ natural_lives d fewer = sym (map_more (natural_life d) ps i 0 inside) in
       let fits : d ^ length fewer ≤ most = le_trans (pow-le-pow_right some {i = length fewer} {j = length ps} (omega (arith, length-take (i + 1) ps))) small in
-      let bounded = row_within d (i + 1 + 1) fewer (recursion_from_All (λ p. p ≤ d) fewer (All-take (λ p. p ≤ d) (i + 1) ps each_within)) fits in
+      let bounded = row_within d (i + 1 + 1) fewer (each_taken (λ p. p ≤ d) ps 0 (none_above d ps none) (i + 1)) fits in
       let entries = subst (AllByRecursion (λ n. n ≤ most)) (sym (compose_row naturals_laws ls l (i + 1 + 1) ∙ ap (row naturals (i + 1 + 1)) joined)) bounded in
       let le : p ≤ d = none_above d ps none i inside in
       ap₂ (λ a b. compose floats (record { alive = a; dead = b }) float_zero (map float (row naturals (i + 1 + 1) ls)))
@@ -80,19 +69,28 @@ entry_asked ls n k len = elim (cases_lt k (n + 1)) [
 ]
 
 -- What a granted call has been answered.
-pub answered_from : (ps : List ℕ) (d k : ℕ) (before after : List Float) (x y : Float) → Admitted ps d → (d ^ length ps ≤ most) × (y ≡ float (d ^ length ps)) → k ≤ 64 → length ps < length before
-    → after ≡ worked ps d before → x ≡ get_or (take (length ps + 1) after) k (float 0) → answer ps d k before ≡ Ok (record { count = x; denominator = y }, after)
-answered_from ps d k before after x y few power asked room is read =
-    rw (le-ltb 64 (length ps) few.0, inside, few.3, le-ltb most (d ^ length ps) power.0, le-ltb 64 k asked, le-ltb (length before) (length ps + 1) (omega arith)) (ap Ok (ap₂ (λ c t. (c, t)) (ap₂ (λ u v. record { count = u; denominator = v }) (sym count_is) (sym power.1)) (sym is)))
-  where
-    ls : List (Life ℕ)
-    ls = natural_lives d ps
+module _ (ps : List ℕ) (d k : ℕ) (before after : List Float) (x y : Float) (few : Admitted ps d) (power : (d ^ length ps ≤ most) × (y ≡ float (d ^ length ps))) (asked : k ≤ 64) (room : length ps < length before)
+    (is : after ≡ worked ps d before) (read : x ≡ get_or (take (length ps + 1) after) k (float 0)) where
+  abbrev ls : List (Life ℕ)
+  ls = natural_lives d ps
 
-    inside : (nat_eq d 0 || nat_lt 1000000000 d) ≡ false
-    inside = ap₂ ◌||◌ (ne_eqb d 0 (omega (arith, few.1))) (le-ltb 1000000000 d few.2)
+  inside : (nat_eq d 0 || nat_lt 1000000000 d) ≡ false
+  inside = ap₂ ◌||◌ (ne_eqb d 0 (omega (arith, few.1))) (le-ltb 1000000000 d few.2)
 
-    count_is : x ≡ float (exactly naturals k ls)
-    count_is =
-        read
-        ∙ ap (λ t. get_or t k (float 0)) (ap (take (length ps + 1)) is ∙ take_at (map float (row naturals (length ps + 1) ls)) _ (length ps + 1) (length_row float (λ j. exactly naturals j ls) (length ps + 1)))
-        ∙ entry_asked ls (length ps) k (length-map ps (against d))
+  front : take (length ps + 1) after ≡ map float (row naturals (length ps + 1) ls)
+  front = ap (take (length ps + 1)) is ∙ take_at (map float (row naturals (length ps + 1) ls)) _ (length ps + 1) (length_row float (λ j. exactly naturals j ls) (length ps + 1))
+
+  entry : (j : ℕ) → get_or (take (length ps + 1) after) j (float 0) ≡ float (exactly naturals j ls)
+  entry j = ap (λ t. get_or t j (float 0)) front ∙ entry_asked ls (length ps) j (length-map ps (natural_life d))
+
+  pub answered_from : answer ps d k before ≡ Ok (record { count = x; denominator = y }, after)
+  answered_from =
+      rw (le-ltb 64 (length ps) few.0, inside, few.3, le-ltb most (d ^ length ps) power.0, le-ltb 64 k asked, le-ltb (length before) (length ps + 1) (omega arith))
+      (ap Ok (ap₂ (λ c t. (c, t)) (ap₂ (λ u v. record { count = u; denominator = v }) (sym (read ∙ entry k)) (sym power.1)) (sym is)))
+
+  pub exact_from : Exact ps d k (record { count = x; denominator = y }) after
+  exact_from = (
+    subst (IsExactly (exactly naturals k ls)) (sym (read ∙ entry k)) (float_value (exactly naturals k ls)),
+    subst (IsExactly (d ^ length ps)) (sym power.1) (float_value (d ^ length ps)),
+    λ j h. subst (IsExactly (exactly naturals j ls)) (sym (sym (get_or-take (length ps + 1) after j float_zero (omega arith)) ∙ ap (get_or (take (length ps + 1) after) j) float_zero_is ∙ entry j)) (float_value (exactly naturals j ls)),
+  )

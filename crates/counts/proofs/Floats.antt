@@ -12,9 +12,10 @@ use native.Mathlib.Nat.{lt_of_le_of_lt}
 use Rattle.std.specs.Float.Order.{lt_at}
 use Rattle.algebra.proofs.Semiring.{naturals_laws}
 use Rattle.algebra.proofs.Solver.{semiring, made}
-use Rattle.counts.specs.Floats.{float}
+use Rattle.counts.specs.Answer.{most}
+use Rattle.counts.specs.Floats.{IsExactly, float}
 
-pub float_value : (n : ℕ) → HasValue (float n) false n 1
+pub float_value : (n : ℕ) → IsExactly n (float n)
 float_value n = subst (λ a. HasValue (float n) false a 1) (omega arith) (odd_sign 54 false n 0 0)
 
 minus_up : (a b : ℕ) → b ≤ a → minus a b ≡ pos (a - b)
@@ -28,13 +29,13 @@ in_units (suc q) =
     let t = count_trailing_zeros 54 (suc q) in
     ap (λ e. fin false (suc q / 2 ^ t) e) (minus_up (0 + t) 0 (omega arith) ∙ ap pos (omega arith) ∙ sym (minus_up (1074 + t) 1074 (omega arith)))
 
-float_fits : (n : ℕ) → n ≤ 2 ^ 53 → T (fits binary64 (float n))
+float_fits : (n : ℕ) → n ≤ most → T (fits binary64 (float n))
 float_fits n h =
     subst (λ x. T (fits binary64 x)) (sym (in_units n))
     (odd-fits binary64 54 false n 1074 (omega arith) h (lt_of_le_of_lt (mul-le-mul_right (2 ^ 1074) h) (lit< tt)))
 
 -- A number up to 2^53 is not rounded.
-round_is_float : (n : ℕ) → n ≤ 2 ^ 53 → round binary64 false n 1 ≡ float n
+round_is_float : (n : ℕ) → n ≤ most → round binary64 false n 1 ≡ float n
 round_is_float n h = whole_unique binary64 (round binary64 false n 1) (float n) false n (round-fits binary64 false n 1) (float_fits n h) (round_whole binary64 false n h) (float_value n)
 
 -- What the operations give at floats that are whole numbers, rounded as it may be.
@@ -76,10 +77,10 @@ product_rounded (fin false m e) (fin false n d) a b v w =
     round_same binary64 false (m * up e * (n * up d)) (down e * down d) (a * b) 1 (mul-pos (down_pos e) (down_pos d)) (omega arith) (same_product m n a b e d v.1 w.1)
 
 -- A sum and a product that stay up to 2^53 lose nothing.
-pub sum_exact : (a b : ℕ) → a + b ≤ 2 ^ 53 → add binary64 (float a) (float b) ≡ float (a + b)
+pub sum_exact : (a b : ℕ) → a + b ≤ most → add binary64 (float a) (float b) ≡ float (a + b)
 sum_exact a b h = sum_rounded (float a) (float b) a b (float_value a) (float_value b) ∙ round_is_float (a + b) h
 
-pub product_exact : (a b : ℕ) → a * b ≤ 2 ^ 53 → mul binary64 (float a) (float b) ≡ float (a * b)
+pub product_exact : (a b : ℕ) → a * b ≤ most → mul binary64 (float a) (float b) ≡ float (a * b)
 product_exact a b h = product_rounded (float a) (float b) a b (float_value a) (float_value b) ∙ round_is_float (a * b) h
 
 -- The order is that of the numbers.
@@ -87,11 +88,11 @@ pub less_exact : (a b : ℕ) → lt (float a) (float b) ≡ nat_lt a b
 less_exact a b = lt_at (float a) (float b) a 1 b 1 (omega arith) (omega arith) (float_value a) (float_value b) ∙ ap₂ nat_lt (omega arith) (omega arith)
 
 -- What a cast gives.
-pub cast_exact : (n : ℕ) → n ≤ 2 ^ 53 → of_int binary64 (pos n) ≡ float n
+pub cast_exact : (n : ℕ) → n ≤ most → of_int binary64 (pos n) ≡ float n
 unfolding of_int
 cast_exact n h = round_is_float n h
 
--- The literals, and zero and one among the operations.
+-- Zero and one, as they are written in the code, and zero among the operations.
 pub float_zero_bits : of_bits binary64 0 ≡ float 0
 unfolding of_bits odd
 float_zero_bits = refl

@@ -1,11 +1,11 @@
 -- What a call for a count is answered, and what it leaves in the work table.
-use Rattle.std.specs.Prelude.{◌≡◌, ℕ, ◌+◌, ◌^◌, ◌≤◌, ◌||◌, List, ◌++◌, map, length, drop, if◌then◌else◌, ◌==◌, nat_lt, position, Option, Some, None, Result, Ok, Err}
+use Rattle.std.specs.Prelude.{◌≡◌, ℕ, ◌+◌, ◌^◌, ◌≤◌, ◌||◌, List, ◌++◌, map, length, drop, slice_index_or, if◌then◌else◌, ◌==◌, nat_lt, position, Option, Some, None, Result, Ok, Err}
 use Rattle.std.specs.Option.{option_map_or}
-use Rattle.std.specs.Float.{Float}
+use Rattle.std.specs.Float.{Float, float_zero}
 use Rattle.algebra.specs.Patterns.{naturals, natural_lives, exactly}
 use Rattle.algebra.specs.Rows.{row}
-use Rattle.counts.specs.Floats.{float}
-use Rattle.counts.specs.declared.Count.{Count}
+use Rattle.counts.specs.Floats.{IsExactly, float}
+use Rattle.counts.specs.declared.Chance.{Chance}
 use Rattle.counts.specs.declared.Refusal.{Refusal}
 use Rattle.counts.specs.declared.Refusal.TheVariants.{TooManyLives, WholeOutside, LifeAboveWhole, PowerTooLarge, CountAboveLimit, ShortTable}
 
@@ -31,7 +31,7 @@ place ShortTable = None
 abbrev pub most : ℕ
 most = 2 ^ 53
 
--- The first life above the whole d.
+-- The place of the first life above the whole d.
 abbrev pub above : ℕ → List ℕ → Option ℕ
 above d ps = position (nat_lt d) ps
 
@@ -40,16 +40,16 @@ abbrev pub Admitted : List ℕ → ℕ → Type 0
 Admitted ps d = (length ps ≤ 64) × (1 ≤ d) × (d ≤ 1000000000) × (above d ps ≡ None)
 
 -- Exactly k alive of the lives ps against the whole d, and d to the power of their number.
-abbrev pub count : List ℕ → ℕ → ℕ → Count
-count ps d k = record { count = float (exactly naturals k (natural_lives d ps)); denominator = float (d ^ length ps) }
+abbrev pub chance : List ℕ → ℕ → ℕ → Chance
+chance ps d k = record { count = float (exactly naturals k (natural_lives d ps)); denominator = float (d ^ length ps) }
 
 -- The work table afterwards: the row, exactly 0 to exactly n, and behind it the entries that were there.
 abbrev pub worked : List ℕ → ℕ → List Float → List Float
 worked ps d work = map float (row naturals (length ps + 1) (natural_lives d ps)) ++ drop (length ps + 1) work
 
--- The first refusal that applies, in this order, else the count and the work table afterwards. (`option_map_or f o x` is f
+-- The first refusal that applies, in this order, else the chance and the work table afterwards. (`option_map_or f o x` is f
 -- of what o has, and x where it has nothing.)
-abbrev pub answer : List ℕ → ℕ → ℕ → List Float → Result (Count × List Float) Refusal
+abbrev pub answer : List ℕ → ℕ → ℕ → List Float → Result (Chance × List Float) Refusal
 answer ps d k work =
     if nat_lt 64 (length ps) then Err TooManyLives
     else if d == 0 || nat_lt 1000000000 d then Err WholeOutside
@@ -57,4 +57,10 @@ answer ps d k work =
     (if nat_lt most (d ^ length ps) then Err PowerTooLarge
     else if nat_lt 64 k then Err CountAboveLimit
     else if nat_lt (length work) (length ps + 1) then Err ShortTable
-    else Ok (count ps d k, worked ps d work))
+    else Ok (chance ps d k, worked ps d work))
+
+-- Each float of an answer is exactly its whole number.
+abbrev pub Exact : List ℕ → ℕ → ℕ → Chance → List Float → Type 0
+Exact ps d k c work =
+    IsExactly (exactly naturals k (natural_lives d ps)) c.count × IsExactly (d ^ length ps) c.denominator
+    × ((j : ℕ) → j ≤ length ps → IsExactly (exactly naturals j (natural_lives d ps)) (slice_index_or work j float_zero))

@@ -1,10 +1,9 @@
 //! Exact counts in 64-bit floats, for sheets that divide one float by another.
 #![tactic(auto)]
 
-ghost use Rattle.std.specs.Prelude.{◌≡◌, ℕ, ◌^◌, ◌<◌, List, Some, None, Ok, Err, MatchResult, if◌then◌else◌, nat_lt, false};
+ghost use Rattle.std.specs.Prelude.{◌≡◌, ℕ, ◌^◌, ◌<◌, List, Some, None, Ok, Err, IfOk, MatchResult, if◌then◌else◌, nat_lt};
 ghost use Rattle.std.specs.Float.{Float, float_zero};
-ghost use lib.Ieee.Exact.{HasValue};
-ghost use Rattle.counts.specs.Answer.{Admitted, above, answer, most, number, place};
+ghost use Rattle.counts.specs.Answer.{Admitted, Exact, above, answer, most, number, place};
 ghost use Rattle.counts.specs.Floats.{float, floats};
 ghost use Rattle.algebra.proofs.Composition.{compose};
 
@@ -14,7 +13,7 @@ const MOST: u64 = 1 << 53;
 /// The largest d.
 const LARGEST_WHOLE: u32 = 1_000_000_000;
 
-/// The most lives, and the largest count asked for.
+/// The most lives, and the largest k.
 const LIMIT: usize = 64;
 
 /// Why a count is refused.
@@ -28,7 +27,7 @@ pub enum Refusal {
     LifeAboveWhole { place: usize },
     /// d to the power n is above 2^53.
     PowerTooLarge,
-    /// The count asked for is above 64.
+    /// k is above 64.
     CountAboveLimit,
     /// The work table has too few entries for the row.
     ShortTable,
@@ -65,9 +64,9 @@ impl Refusal {
     }
 }
 
-/// A count, and what to divide it by.
+/// The chance that exactly k are alive, as a count and what to divide it by.
 #[derive(Clone, Copy, PartialEq, Debug)]
-pub struct Count {
+pub struct Chance {
     pub count: f64,
     pub denominator: f64,
 }
@@ -103,16 +102,16 @@ fn power(whole: u32, n: usize) -> Option<f64>
     ensures { result ≡ (if nat_lt most (whole ^ n) then None else Some (float (whole ^ n))) }
 {
     let factor = f64::from(whole);
-    // The largest power that d may still multiply: a product above 2^53 could be rounded, so none is worked.
-    let most = (MOST / u64::from(whole)) as f64;
-    let mut power = 1.0;
+    // The largest product that d may still multiply: one above 2^53 could be rounded, so none is worked.
+    let largest = (MOST / u64::from(whole)) as f64;
+    let mut product = 1.0;
     for _ in 0..n {
-        if power > most {
+        if product > largest {
             return None;
         }
-        power *= factor;
+        product *= factor;
     }
-    Some(power)
+    Some(product)
 }
 
 /// One life more in a row whose last entry is new and zero, in place: each entry becomes
@@ -130,23 +129,21 @@ fn compose(row: &mut [f64], alive: f64, dead: f64)
 
 /// The count for exactly `k` of the lives alive, and what to divide it by: the sum, over all survival patterns with k
 /// alive, of the products of p over the alive and d − p over the dead; and d to the power n. A life p stands for the
-/// chance p / d of being alive, and n is how many lives there are. For k above n the count is zero.
+/// chance p / d of being alive, d is `whole`, and n is how many lives there are. For k above n the count is zero.
 ///
 /// Both are exact, and so is the row, exactly 0 to exactly n alive, that the first n + 1 entries of the work table hold
-/// afterwards; its other entries stay. The row is worked in floats, one life after the other: entry k becomes
-/// p · entry k − 1 + (d − p) · entry k, the convolution with the life's own row (Feller, "An Introduction to Probability
-/// Theory and Its Applications", volume 1, chapter XI). All entries of a row add up to d to the power of its lives, so
-/// that nothing on the way is above 2^53.
+/// afterwards; its other entries stay. The row is worked in floats, one life after the other, by
+/// new(r) = p · old(r − 1) + (d − p) · old(r): the convolution with the life's own row (Feller, "An Introduction to
+/// Probability Theory and Its Applications", volume 1, chapter XI). All patterns of i lives together are worth d^i, so
+/// that what is worked for n lives is at most d^n, which is at most 2^53.
 ///
 /// Refused, in this order: over 64 lives (8), d not 1 to 1,000,000,000 (21), a life above d (22, with the lowest place),
-/// d to the power n above 2^53 (23), k above 64 (5), a work table with under n + 1 entries (10). The work table is then as
-/// it was.
-#[tactic(auto, using(crate::proofs::Floats::float_value))]
-pub fn count_exactly(lives: &[u32], whole: u32, k: u32, work: &mut [f64]) -> Result<Count, Refusal>
+/// d^n above 2^53 (23), k above 64 (5), a work table with under n + 1 entries (10). The work table is then as it was.
+pub fn count_exactly(lives: &[u32], whole: u32, k: u32, work: &mut [f64]) -> Result<Chance, Refusal>
     ensures answered { MatchResult result
         (λ c. answer lives.now whole k work.old ≡ Ok (c, work.new))
         (λ e. (answer lives.now whole k work.old ≡ Err e) × (work.new ≡ work.old)) }
-    ensures exact { (n : ℕ) → HasValue (float n) false n 1 }
+    ensures exact { IfOk result (λ c. Exact lives.now whole k c work.new) }
 {
     admit(lives, whole)?;
     let n = lives.len();
@@ -164,5 +161,5 @@ pub fn count_exactly(lives: &[u32], whole: u32, k: u32, work: &mut [f64]) -> Res
     }
     // No pattern has more alive than there are lives.
     let count = work[..=n].get(k as usize).copied().unwrap_or(0.0);
-    Ok(Count { count, denominator })
+    Ok(Chance { count, denominator })
 }

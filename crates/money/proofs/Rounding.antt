@@ -4,7 +4,7 @@ use native.Mathlib.Nat.{pow-succ'}
 use Rattle.std.specs.List.{AllByRecursion}
 use Rattle.algebra.proofs.Each.{each_append}
 use Rattle.std.proofs.lemmas.List.{append_assoc, append-nil, map-append, drop_all}
-use Rattle.algebra.specs.Patterns.{Life, naturals, total, at_least}
+use Rattle.algebra.specs.Patterns.{Life, naturals, natural_life, total, at_least}
 use Rattle.algebra.proofs.Patterns.{at_least_suc_nil, at_least_suc_cons, at_least_suc_at}
 use Rattle.algebra.proofs.Naturals.{all_patterns}
 use Rattle.algebra.proofs.Semiring.{naturals_laws}
@@ -101,7 +101,7 @@ near_all_patterns n x f ex ef =
 
 -- The exact sums, as lives are added at the end.
 abbrev life : ℕ → Life ℕ
-life p = record { alive = p; dead = whole - p }
+life = natural_life whole
 
 exact_more : (ls : List ℕ) (p k : ℕ) → exact (ls ++ p ∷ []) (suc k) ≡ p * exact ls k + (whole - p) * exact ls (suc k)
 exact_more ls p k =

@@ -12,7 +12,7 @@ use Rattle.roster.specs.declared.cells.Cell.{Cell}
 use Rattle.roster.proofs.Laying.{length_held}
 use Rattle.roster.proofs.Places.{present_is}
 use Rattle.roster.proofs.Holding.{cleared_laid}
-use Rattle.algebra.proofs.Fronts.{written_from}
+use Rattle.roster.proofs.RowsTable.{written_from}
 
 module _ {F P : Type 0} (o : Ops F) (plain : F → P) where
   -- A call is met where the answer is the ledger's and the cells hold what that answer lets the call do.

@@ -12,7 +12,8 @@ use Rattle.rows.specs.declared.Refusal.TheVariants.{ShortTable}
 use Rattle.rows.proofs.Households.{answer_theirs}
 use Rattle.roster.specs.Ledger.{Ledger, Table, RefusedTable, Composed, figures, row_of, answer}
 use Rattle.roster.specs.Refusals.{households_or}
-use Rattle.algebra.proofs.Fronts.{length_row, figures_back}
+use Rattle.algebra.proofs.Fronts.{length_row}
+use Rattle.roster.proofs.RowsTable.{figures_back}
 
 module _ {F P : Type 0} {o : Ops F} (L : Laws o) (figure : P → F) (plain : F → P) (back : (x : F) → figure (plain x) ≡ x) where
   abbrev lives_of : Ledger F → List (Life F)

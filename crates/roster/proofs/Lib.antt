@@ -7,6 +7,7 @@ pub mod Places
 pub mod QuestionsRead
 pub mod QuestionsSums
 pub mod WaysTable
+pub mod RowsTable
 pub mod RowsComposed
 pub mod RowsTriangle
 pub mod Runs

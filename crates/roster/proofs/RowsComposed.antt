@@ -7,7 +7,8 @@ use Rattle.algebra.specs.Rows.{row}
 use Rattle.algebra.specs.Sums.{against}
 use Rattle.algebra.proofs.Semiring.{laws_semi}
 use Rattle.algebra.proofs.Composition.{compose}
-use Rattle.algebra.proofs.Fronts.{Begun, begun_first, figures_back}
+use Rattle.algebra.proofs.Fronts.{Begun, begun_first}
+use Rattle.roster.proofs.RowsTable.{figures_back}
 
 -- The pass over entries in their plain form; `below` is the old entry before them.
 abbrev pub composed : {F P : Type 0} → Semi F → (F → P) → (P → F) → Life F → F → List P → List P

@@ -8,7 +8,8 @@ use Rattle.algebra.specs.Rows.{row}
 use Rattle.algebra.specs.Sums.{power, elementary, against}
 use Rattle.algebra.proofs.Waring.{entry, entry_none, entry_step, entry_last, entry_past, exactly_entry}
 use Rattle.roster.specs.Triangle.{differences}
-use Rattle.algebra.proofs.Fronts.{figures_back, length_row, row_push}
+use Rattle.algebra.proofs.Fronts.{length_row, row_push}
+use Rattle.roster.proofs.RowsTable.{figures_back}
 
 -- A pass, from the last place down: the places below t are old.
 module _ {F P : Type 0} (o : Ops F) (plain : F → P) (figure : P → F) (entry : List P) where

@@ -5,4 +5,4 @@ use Rattle.counts.proofs.power.Given as goal
 
 -- The power so far, exactly.
 abbrev pub invariant-loop : goal.invariant-loop
-invariant-loop l = (l.power ≡ float (l.whole ^ l.counter)) × (l.whole ^ l.counter ≤ most)
+invariant-loop l = (l.product ≡ float (l.whole ^ l.counter)) × (l.whole ^ l.counter ≤ most)

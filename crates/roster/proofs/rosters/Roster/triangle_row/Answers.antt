@@ -6,7 +6,7 @@ use Rattle.algebra.specs.Sums.{against}
 use Rattle.roster.specs.Ledger.{figures}
 use Rattle.roster.specs.Triangle.{differences}
 use Rattle.roster.proofs.QuestionsRead.{asked, row_asked}
-use Rattle.algebra.proofs.Fronts.{written_from}
+use Rattle.roster.proofs.RowsTable.{written_from}
 use Rattle.roster.proofs.RowsTriangle.{passes_more, passes_all}
 use Rattle.roster.proofs.rosters.Roster.triangle_row.Goals as goal
 
