@@ -1,4 +1,5 @@
 //! The commands that need no roster.
+use counts::{Count, count_exactly};
 use exchangeable::exchangeable_row;
 use figures::{Dual, Residue, Ring, Scenarios, Word};
 use money::{factor, money_row};
@@ -7,7 +8,8 @@ use rows::households_row;
 use std::alloc::Global;
 use text::Unanswered::{self, NotUnderstood};
 use text::{
-    Typed, around_slash, fields_text, filled, hex_bytes, short_number, size, table_text, typed_list,
+    Typed, around_slash, fields_text, filled, floats_text, hex_bytes, short_number, size,
+    table_text, typed_list,
 };
 
 pub fn obey(heap: Global, words: &[&[u8]]) -> Result<String, Unanswered> {
@@ -15,6 +17,9 @@ pub fn obey(heap: Global, words: &[&[u8]]) -> Result<String, Unanswered> {
         [b"unpack", hex] => unpack_command(heap, hex),
         [b"money", entries, lives @ ..] => money_command(heap, entries, lives),
         [b"factor", k, entries, lives @ ..] => factor_command(heap, k, entries, lives),
+        [b"counts", whole, k, entries, lives @ ..] => counts_command(
+            heap, whole, k, entries, lives,
+        ),
         [b"exchangeable", m, entries, table @ ..] => exchangeable_command(heap, m, entries, table),
         [b"households", kind, entries, rows @ ..] => households_command(heap, kind, entries, rows),
         _ => Err(NotUnderstood),
@@ -49,6 +54,25 @@ fn factor_command(
     let lives = typed_list(heap, lives)?;
     let mut work = filled(heap, 0u64, entries)?;
     Ok(factor(&lives, k, &mut work)?.to_string(heap)?)
+}
+
+/// counts D K ENTRIES P P ..
+fn counts_command(
+    heap: Global,
+    whole: &[u8],
+    k: &[u8],
+    entries: &[u8],
+    lives: &[&[u8]],
+) -> Result<String, Unanswered> {
+    let whole = short_number(whole).ok_or(NotUnderstood)?;
+    let k = short_number(k).ok_or(NotUnderstood)?;
+    let entries = size(entries).ok_or(NotUnderstood)?;
+    let lives = typed_list(heap, lives)?;
+    let mut work = filled(heap, 0.5, entries)?;
+    let Count { count, denominator } = count_exactly(&lives, whole, k, &mut work)?;
+    let answer = floats_text(heap, &[count, denominator])?;
+    let table = floats_text(heap, &work)?;
+    Ok(format!(in heap; "{answer} {table}")?)
 }
 
 /// exchangeable M ENTRIES U U ..

@@ -4,3 +4,4 @@ pub mod Spaces
 pub mod FirstLine
 pub mod Echoes
 pub mod Slash
+pub mod FloatTexts

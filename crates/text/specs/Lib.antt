@@ -1,3 +1,4 @@
 pub mod Text
+pub mod Floats
 pub mod Reading
 pub mod Understood

@@ -4,6 +4,8 @@ ghost use Rattle.text.specs.Text.{number_within, slope, slope_text, hex_text, re
 ghost use Rattle.text.specs.declared.unanswered.Unanswered.TheVariants.{NoMemory, Refused};
 ghost use Rattle.money.specs.Answer.{number, place};
 ghost use Rattle.money.specs.declared.Refusal.{Refusal as MoneyRefusal};
+ghost use Rattle.counts.specs.Answer.{number as count_number, place as count_place};
+ghost use Rattle.counts.specs.declared.Refusal.{Refusal as CountRefusal};
 ghost use Rattle.exchangeable.specs.Answer.{number as table_number, place as table_place};
 ghost use Rattle.exchangeable.specs.declared.Refusal.{Refusal as TableRefusal};
 ghost use Rattle.rows.specs.Answer.{number as row_number};
@@ -40,6 +42,8 @@ pub fn bytes_and_refusals_are_as_defined<T: Drop, P: Copy>()
         × ((e : AllocFailed T) (u : Unanswered) → ⟦<Unanswered as From<AllocFailed<T>>>⟧.from_gives e u → u ≡ NoMemory) }
     ensures of_money { (r : MoneyRefusal) (u : Unanswered) → ⟦<Unanswered as From<money::Refusal>>⟧.from_gives r u
         → u ≡ Refused (record { number = number r; place = place r }) }
+    ensures of_counts { (r : CountRefusal) (u : Unanswered) → ⟦<Unanswered as From<counts::Refusal>>⟧.from_gives r u
+        → u ≡ Refused (record { number = count_number r; place = count_place r }) }
     ensures of_exchangeable { (r : TableRefusal) (u : Unanswered) → ⟦<Unanswered as From<exchangeable::Refusal>>⟧.from_gives r u
         → u ≡ Refused (record { number = table_number r; place = table_place r }) }
     ensures of_rows { (r : RowRefusal) (u : Unanswered) → ⟦<Unanswered as From<rows::Refusal>>⟧.from_gives r u

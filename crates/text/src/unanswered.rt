@@ -3,6 +3,7 @@ ghost use Rattle.std.specs.Prelude.{◌≡◌, Some, None};
 ghost use Rattle.text.specs.Text.{refusal_text};
 ghost use Rattle.text.specs.declared.unanswered.Unanswered.TheVariants.{NoMemory, Refused};
 ghost use Rattle.money.specs.Answer.{number, place};
+ghost use Rattle.counts.specs.Answer.{number as count_number, place as count_place};
 ghost use Rattle.exchangeable.specs.Answer.{number as table_number, place as table_place};
 ghost use Rattle.roster.specs.Refusals.{refusal_number as roster_number};
 ghost use Rattle.rows.specs.Answer.{number as row_number};
@@ -68,6 +69,14 @@ impl From<money::Refusal> for Unanswered {
     ghost from_gives = { λ r u. u ≡ Refused (record { number = number r; place = place r }) };
 
     fn from(refusal: money::Refusal) -> Unanswered {
+        Unanswered::refused(refusal.number(), refusal.place())
+    }
+}
+
+impl From<counts::Refusal> for Unanswered {
+    ghost from_gives = { λ r u. u ≡ Refused (record { number = count_number r; place = count_place r }) };
+
+    fn from(refusal: counts::Refusal) -> Unanswered {
         Unanswered::refused(refusal.number(), refusal.place())
     }
 }
