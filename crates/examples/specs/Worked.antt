@@ -1,8 +1,10 @@
 -- Worked examples. `computed` has what the definitions that the calls' contracts cite answer on small numbers, a list for
 -- each group of calls; `listed` has what is expected of them. The contract of `examples_follow` says that the two are
 -- the same: the same outcomes, call by call.
-use Rattle.std.specs.Prelude.{ℕ, ◌+◌, ◌-◌, ◌^◌, List, [], ◌∷◌, map, flat_map, ℤ, pos, Option, Some, None, Result, Ok, Err}
+use Rattle.std.specs.Prelude.{ℕ, ◌+◌, ◌-◌, ◌*◌, ◌^◌, List, [], ◌∷◌, map, flat_map, replicate, ℤ, pos, negsuc, false, Option, Some, None, Result, Ok, Err}
 use Rattle.std.specs.List.{range_with_len}
+use Rattle.std.specs.Float.{Float, fin}
+use Rattle.std.specs.Float.Ieee.{up, down}
 use Rattle.algebra.specs.Ring.{Ops, semi}
 use Rattle.figures.specs.Words as words
 use Rattle.figures.specs.Residues as residues
@@ -16,11 +18,15 @@ use Rattle.rows.specs.Answer as rows
 use Rattle.roster.specs.Ledger.{Call, Join, Leave, Exactly, AtLeast, Composed, Answer, Done, Refused, Figure, Table, RefusedTable, opened, answers}
 use Rattle.roster.specs.Refusals.{households_or}
 use Rattle.money.specs.Money.{money_row, factor_of}
+use Rattle.counts.specs.Answer as counts
+use Rattle.counts.specs.declared.Count.{Count}
+use Rattle.counts.specs.declared.Refusal as counts_refusal
 use Rattle.exchangeable.specs.Answer as exchangeable
 use Rattle.exchangeable.specs.declared.Refusal.{Refusal}
 
 -- What came of a call: it was done; it was refused, with the refusal's number and the place that it names; a figure, or
--- a factor; a slope's figure, as its value and its rate; a row; or a refused row, with the number and the table as it is then.
+-- a factor; a slope's figure, as its value and its rate; a row; a refused row, with the number and the table as it is then;
+-- or a count and its denominator, with the table as it is then, each a numerator and a denominator.
 pub data Outcome : Type 0 where
   done : Outcome
   refused : ℕ → Option ℕ → Outcome
@@ -28,6 +34,7 @@ pub data Outcome : Type 0 where
   slope : ℕ → ℕ → Outcome
   row : List ℤ → Outcome
   refused_row : ℕ → List ℤ → Outcome
+  counted : ℕ × ℕ → ℕ × ℕ → List (ℕ × ℕ) → Outcome
 
 -- What came of a call on a roster, by how its kind shows a figure, and what numbers an entry of a row has.
 abbrev of_answer : {F P : Type 0} → (F → Outcome) → (P → List ℤ) → Answer F P → Outcome
@@ -78,6 +85,24 @@ of_result (Err e) = refused (exchangeable.number e) (exchangeable.place e)
 abbrev on_table : List ℕ → ℕ → ℕ → Outcome
 on_table u m size = of_result (exchangeable.answer u m size)
 
+-- A finite float without a sign, as a numerator and a denominator; any other as 0 and 0.
+abbrev fraction : Float → ℕ × ℕ
+fraction (fin false m e) = (m * up e, down e)
+fraction x = (0, 0)
+
+-- What came of a call for a count.
+abbrev of_count : Result (Count × List Float) counts_refusal.Refusal → Outcome
+of_count (Ok (c, work)) = counted (fraction c.count) (fraction c.denominator) (map fraction work)
+of_count (Err e) = refused (counts.number e) (counts.place e)
+
+-- A half, which the work tables hold.
+abbrev half : Float
+half = fin false 1 (negsuc 0)
+
+-- What is answered for exactly k of the lives against d, with a work table of `entries` halves.
+abbrev on_sheet : List ℕ → ℕ → ℕ → ℕ → Outcome
+on_sheet ps d k entries = of_count (counts.answer ps d k (replicate entries half))
+
 abbrev pub computed : List (List Outcome)
 computed =
     on_words 10 (Join 1 (words.word 9) ∷ Join 2 (words.word 8) ∷ Join 3 (words.word 5) ∷ Composed (0 ∷ 0 ∷ 0 ∷ 0 ∷ [])
@@ -93,6 +118,9 @@ computed =
     ∷ on_rows (range_with_len 0 34) (range_with_len 0 33) (7 ∷ []) ∷ on_rows (1 ∷ 9 ∷ []) (10 ∷ 50 ∷ 40 ∷ []) (7 ∷ 7 ∷ 7 ∷ []) ∷ [])
     ∷ (row (map pos (money_row (1 ∷ 1 ∷ []))) ∷ row (map pos (money_row (900000000 ∷ 800000000 ∷ 500000000 ∷ [])))
     ∷ figure (factor_of (900000000 ∷ 800000000 ∷ 500000000 ∷ []) 2) ∷ [])
+    ∷ (on_sheet (9 ∷ 8 ∷ 5 ∷ []) 10 2 5 ∷ on_sheet [] 7 0 1 ∷ on_sheet (9 ∷ 8 ∷ []) 10 3 3 ∷ on_sheet (0 ∷ 94906265 ∷ []) 94906265 1 4 ∷ [])
+    ∷ (on_sheet (range_with_len 0 65) 0 65 0 ∷ on_sheet (1 ∷ 2 ∷ []) 0 65 0 ∷ on_sheet (10 ∷ 11 ∷ 12 ∷ []) 10 65 0 ∷ on_sheet (0 ∷ 1 ∷ []) 94906266 65 0
+    ∷ on_sheet (9 ∷ 8 ∷ []) 10 65 2 ∷ on_sheet (9 ∷ 8 ∷ []) 10 64 2 ∷ [])
     ∷ (on_table (8 ∷ 4 ∷ 2 ∷ 1 ∷ []) 3 4 ∷ on_table (4 ∷ 2 ∷ 0 ∷ []) 2 3 ∷ on_table (4 ∷ 3 ∷ 1 ∷ []) 2 3 ∷ on_table (4 ∷ 1 ∷ 2 ∷ []) 2 3 ∷ [])
     ∷ (on_table [] 0 1 ∷ on_table (4 ∷ (2 ^ 30 + 1) ∷ []) 1 2 ∷ on_table (4 ∷ 2 ∷ []) 2 3 ∷ on_table (4 ∷ 2 ∷ []) 1 1 ∷ [])
     ∷ []
@@ -122,6 +150,13 @@ listed =
     ∷ refused_row 19 (map pos (7 ∷ 7 ∷ 7 ∷ 7 ∷ 7 ∷ [])) ∷ refused_row 20 (map pos (7 ∷ [])) ∷ refused_row 6 (map pos (7 ∷ 7 ∷ 7 ∷ [])) ∷ [])
     -- money rows, and the factor for 2 of the second
     ∷ (row (map pos (999999998 ∷ 1 ∷ 1 ∷ [])) ∷ row (map pos (10000000 ∷ 140000000 ∷ 490000000 ∷ 360000000 ∷ [])) ∷ figure 850000000 ∷ [])
+    -- counts: the lives 9, 8 and 5 against 10, exactly 2, and the fifth half stays; no lives; a k above n; 0 and 94906265
+    -- against 94906265
+    ∷ (counted (490, 1) (1000, 1) ((10, 1) ∷ (140, 1) ∷ (490, 1) ∷ (360, 1) ∷ (1, 2) ∷ []) ∷ counted (1, 1) (1, 1) ((1, 1) ∷ [])
+    ∷ counted (0, 1) (100, 1) ((2, 1) ∷ (26, 1) ∷ (72, 1) ∷ [])
+    ∷ counted (9007199136250225, 1) (9007199136250225, 1) ((0, 1) ∷ (9007199136250225, 1) ∷ (0, 1) ∷ (1, 2) ∷ []) ∷ [])
+    -- 65 lives; d of 0; the second of three lives above 10; 94906266 to the power 2; a k of 65; a table one short
+    ∷ (refused 8 None ∷ refused 21 None ∷ refused 22 (Some 1) ∷ refused 23 None ∷ refused 5 None ∷ refused 10 None ∷ [])
     -- two tables that events have, with their rows, and two that none have, whose first negative weight is at 0 and at 1
     ∷ (row (map pos (1 ∷ 3 ∷ 3 ∷ 1 ∷ [])) ∷ row (map pos (0 ∷ 4 ∷ 0 ∷ [])) ∷ refused 15 (Some 0) ∷ refused 15 (Some 1) ∷ [])
     -- no coefficients; one above 2^30; a row past the table's last; an output one short

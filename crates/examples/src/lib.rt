@@ -18,6 +18,8 @@ mod questions;
 #[cfg(test)]
 mod remainders;
 #[cfg(test)]
+mod sheets;
+#[cfg(test)]
 mod sums;
 #[cfg(test)]
 mod tests;
