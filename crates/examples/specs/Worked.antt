@@ -19,7 +19,7 @@ use Rattle.roster.specs.Ledger.{Call, Join, Leave, Exactly, AtLeast, Composed, A
 use Rattle.roster.specs.Refusals.{households_or}
 use Rattle.money.specs.Money.{money_row, factor_of}
 use Rattle.counts.specs.Answer as counts
-use Rattle.counts.specs.declared.Count.{Count}
+use Rattle.counts.specs.declared.Chance.{Chance}
 use Rattle.counts.specs.declared.Refusal as counts_refusal
 use Rattle.exchangeable.specs.Answer as exchangeable
 use Rattle.exchangeable.specs.declared.Refusal.{Refusal}
@@ -91,7 +91,7 @@ fraction (fin false m e) = (m * up e, down e)
 fraction x = (0, 0)
 
 -- What came of a call for a count.
-abbrev of_count : Result (Count × List Float) counts_refusal.Refusal → Outcome
+abbrev of_count : Result (Chance × List Float) counts_refusal.Refusal → Outcome
 of_count (Ok (c, work)) = counted (fraction c.count) (fraction c.denominator) (map fraction work)
 of_count (Err e) = refused (counts.number e) (counts.place e)
 

@@ -1,5 +1,5 @@
 //! The commands that need no roster.
-use counts::{Count, count_exactly};
+use counts::{Chance, count_exactly};
 use exchangeable::exchangeable_row;
 use figures::{Dual, Residue, Ring, Scenarios, Word};
 use money::{factor, money_row};
@@ -69,7 +69,7 @@ fn counts_command(
     let entries = size(entries).ok_or(NotUnderstood)?;
     let lives = typed_list(heap, lives)?;
     let mut work = filled(heap, 0.5, entries)?;
-    let Count { count, denominator } = count_exactly(&lives, whole, k, &mut work)?;
+    let Chance { count, denominator } = count_exactly(&lives, whole, k, &mut work)?;
     let answer = floats_text(heap, &[count, denominator])?;
     let table = floats_text(heap, &work)?;
     Ok(format!(in heap; "{answer} {table}")?)
