@@ -13,9 +13,9 @@ type Outcome = Result<(u64, u64), (u32, Option<usize>)>;
 /// A call, made.
 fn made(lives: &[u32], whole: u32, k: u32, work: &mut [f64]) -> Outcome {
     match count_exactly(lives, whole, k, work) {
-        Ok(count) => Ok((
-            f64_to_bits_with_nan(count.count),
-            f64_to_bits_with_nan(count.denominator),
+        Ok(chance) => Ok((
+            f64_to_bits_with_nan(chance.count),
+            f64_to_bits_with_nan(chance.denominator),
         )),
         Err(refusal) => Err((refusal.number(), refusal.place())),
     }
