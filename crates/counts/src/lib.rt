@@ -2,7 +2,7 @@
 #![tactic(auto)]
 
 ghost use Rattle.std.specs.Prelude.{◌≡◌, ℕ, ◌^◌, ◌<◌, List, Some, None, Ok, Err, IfOk, MatchResult, if◌then◌else◌, nat_lt};
-ghost use Rattle.std.specs.Float.{Float, float_zero};
+ghost use Rattle.std.specs.Float.{Float};
 ghost use Rattle.counts.specs.Answer.{Admitted, Exact, above, answer, most, number, place};
 ghost use Rattle.counts.specs.Floats.{float, floats};
 ghost use Rattle.algebra.proofs.Composition.{compose};
@@ -117,7 +117,7 @@ fn power(whole: u32, n: usize) -> Option<f64>
 /// One life more in a row whose last entry is new and zero, in place: each entry becomes
 /// alive · the old one below it + dead · itself.
 fn compose(row: &mut [f64], alive: f64, dead: f64)
-    ensures { row.new ≡ compose floats (record { alive = alive; dead = dead }) float_zero row.old }
+    ensures { row.new ≡ compose floats (record { alive = alive; dead = dead }) floats.zero row.old }
 {
     let mut below = 0.0;
     for entry in row.iter_mut() {
