@@ -7,7 +7,10 @@ pub each_append : {X : Type 0} (P : X → Type 0) (xs ys : List X) → AllByRecu
 each_append P [] ys h k = k
 each_append P (x ∷ xs) ys h k = (h.0, each_append P xs ys h.1 k)
 
--- What holds at each place holds of the first n elements.
+-- What holds at each place holds of all elements, and of the first n.
+pub each_held : {X : Type 0} (P : X → Type 0) (xs : List X) (d : X) → ((i : ℕ) → i < length xs → P (get_or xs i d)) → AllByRecursion P xs
+each_held P xs d h = recursion_from_All P xs (All-from_get_or P xs d h)
+
 pub each_taken : {X : Type 0} (P : X → Type 0) (xs : List X) (d : X) → ((i : ℕ) → i < length xs → P (get_or xs i d)) → (n : ℕ) → AllByRecursion P (take n xs)
 each_taken P xs d h n = recursion_from_All P (take n xs) (All-take P n xs (All-from_get_or P xs d h))
 

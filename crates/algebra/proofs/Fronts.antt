@@ -35,6 +35,11 @@ begun_first L plain [] w h e = absurd (omega arith)
 begun_first L plain (x ∷ xs) w h e = ap (λ y. y ∷ xs) (e ∙ ap plain (sym (exactly_zero_nil L)))
 
 -- The lives of a list, one after the other; `view` tells a life's two worths.
+pub row_more : {A F : Type 0} {s : Semi F} (L : SemiLaws s) (view : A → Life F) (ps : List A) (i size : ℕ) (e : A) (l : Life F) → i < length ps → l ≡ view (get_or ps i e)
+    → compose s l s.zero (row s size (map view (take i ps))) ≡ row s size (map view (take (i + 1) ps))
+row_more {s = s} L view ps i size e l inside is-l =
+    compose_row L (map view (take i ps)) l size ∙ ap (row s size) (ap (λ x. map view (take i ps) ++ (x ∷ [])) is-l ∙ sym (map_more view ps i e inside))
+
 module _ {A F P : Type 0} {s : Semi F} (L : SemiLaws s) (plain : F → P) (view : A → Life F) (ps : List A) (before : List P) where
   -- The next life takes the entry past the row's end, which is written zero, and joins the row by one pass.
   pub begun_more : (pass : List P → List P) (i : ℕ) (e : A) (l : Life F) (w : P) (table after : List P) → i < length ps → i + 1 < length before
@@ -53,8 +58,7 @@ module _ {A F P : Type 0} {s : Semi F} (L : SemiLaws s) (plain : F → P) (view 
       let grown : set table (i + 1) w ≡ front ++ rest = grow_row plain (λ k. exactly s k ls) (i + 1) (get_or before (i + 1) w) rest table w split (is-w ∙ ap plain (sym none)) in
       let taken : take (i + 1 + 1) (set table (i + 1) w) ≡ front = ap (take (i + 1 + 1)) grown ∙ take_at front rest (i + 1 + 1) long in
       let left : drop (i + 1 + 1) (set table (i + 1) w) ≡ rest = ap (drop (i + 1 + 1)) grown ∙ drop_at front rest (i + 1 + 1) long in
-      let joined : ls ++ (l ∷ []) ≡ map view (take (i + 1) ps) = ap (λ x. ls ++ (x ∷ [])) is-l ∙ sym (map_more view ps i e inside) in
-      let pass_is : pass front ≡ map plain (row s (i + 1 + 1) (map view (take (i + 1) ps))) = composed ∙ ap (map plain) (compose_row L ls l (i + 1 + 1) ∙ ap (row s (i + 1 + 1)) joined) in
+      let pass_is : pass front ≡ map plain (row s (i + 1 + 1) (map view (take (i + 1) ps))) = composed ∙ ap (map plain) (row_more L view ps i (i + 1 + 1) e l inside is-l) in
       ap₂ ◌++◌ (made ∙ ap pass taken ∙ pass_is) left
 
   -- And no more lives.

@@ -1,19 +1,19 @@
 -- The row, worked in floats: one life after the other, and nothing is lost.
-use Rattle.std.proofs.Common.{◌≡◌, ℕ, ◌+◌, ◌-◌, ◌*◌, ◌^◌, ◌<◌, ◌≤◌, pos, false, nat_lt, nat_eq, ◌||◌, None, Ok, inl, inr, List, [], ◌∷◌, ◌++◌, map, length, get_or, take, refl, sym, ap, ◌∙◌, ap₂, subst, arith, le_trans, length-take}
+use Rattle.std.proofs.Common.{◌≡◌, ℕ, ◌+◌, ◌-◌, ◌*◌, ◌^◌, ◌<◌, ◌≤◌, pos, false, nat_lt, nat_eq, ◌||◌, None, Ok, inl, inr, List, [], ◌∷◌, map, length, get_or, take, refl, sym, ap, ◌∙◌, ap₂, subst, arith, le_trans, length-take}
 use Rattle.std.specs.List.{AllByRecursion, position_or_len}
 use Rattle.std.specs.Float.{Float, binary64, float_zero}
 use lib.Ieee.{of_int}
 use Rattle.std.proofs.lemmas.Bool.{cases_lt, le-ltb, ltb-false, ne_eqb}
 use Rattle.std.proofs.lemmas.Grind.{common_steps}
-use Rattle.std.proofs.lemmas.List.{get_or_past, get_or-map, get_or-take, length-map, map_more, take_at}
+use Rattle.std.proofs.lemmas.List.{get_or_past, get_or-map, get_or-take, length-map, take_at}
 use Rattle.std.proofs.lemmas.List.FromFn.{get_or-map-range_with_len, length-map-range_with_len}
 use Rattle.std.proofs.lemmas.List.Sums.{fails_before_first}
 use native.Mathlib.Nat.{pow-le-pow_right}
 use Rattle.algebra.specs.Patterns.{Life, naturals, natural_life, natural_lives, exactly}
 use Rattle.algebra.proofs.Each.{each_counting, each_taken}
 use Rattle.algebra.specs.Rows.{row}
-use Rattle.algebra.proofs.Composition.{compose, compose_row}
-use Rattle.algebra.proofs.Fronts.{length_row}
+use Rattle.algebra.proofs.Composition.{compose}
+use Rattle.algebra.proofs.Fronts.{length_row, row_more}
 use Rattle.algebra.proofs.Patterns.{exactly_beyond}
 use Rattle.algebra.proofs.Naturals.{exactly_within}
 use Rattle.algebra.proofs.Semiring.{naturals_laws}
@@ -48,13 +48,11 @@ module _ (d : ℕ) (ps : List ℕ) (none : above d ps ≡ None) where
       ≡ map float (compose naturals (natural_life d (get_or ps i 0)) 0 (row naturals (i + 1 + 1) (natural_lives d (take i ps))))
   pass_exact i some few small inside alive dead is-alive is-dead =
       let p = get_or ps i 0 in
-      let l = natural_life d p in
       let ls = natural_lives d (take i ps) in
       let fewer = take (i + 1) ps in
-      let joined : ls ++ (l ∷ []) ≡ natural_lives d fewer = sym (map_more (natural_life d) ps i 0 inside) in
       let fits : d ^ length fewer ≤ most = le_trans (pow-le-pow_right some {i = length fewer} {j = length ps} (omega (arith, length-take (i + 1) ps))) small in
       let bounded = row_within d (i + 1 + 1) fewer (each_taken (λ p. p ≤ d) ps 0 (none_above d ps none) (i + 1)) fits in
-      let entries = subst (AllByRecursion (λ n. n ≤ most)) (sym (compose_row naturals_laws ls l (i + 1 + 1) ∙ ap (row naturals (i + 1 + 1)) joined)) bounded in
+      let entries = subst (AllByRecursion (λ n. n ≤ most)) (sym (row_more naturals_laws (natural_life d) ps i (i + 1 + 1) 0 (natural_life d p) inside refl)) bounded in
       let le : p ≤ d = none_above d ps none i inside in
       ap₂ (λ a b. compose floats (record { alive = a; dead = b }) float_zero (map float (row naturals (i + 1 + 1) ls)))
       (is-alive ∙ cast_exact p (omega arith)) (is-dead ∙ cast_exact (d - p) (omega arith))
@@ -68,7 +66,7 @@ entry_asked ls n k len = elim (cases_lt k (n + 1)) [
   | inr past ↦ get_or_past (map float (row naturals (n + 1) ls)) k (float 0) (omega (arith, past, length_row float (λ j. exactly naturals j ls) (n + 1))) ∙ ap float (sym (exactly_beyond naturals_laws k ls (omega (arith, past, len))))
 ]
 
--- What a granted call has been answered.
+-- What a granted call is answered, from what the loop left.
 module _ (ps : List ℕ) (d k : ℕ) (before after : List Float) (x y : Float) (few : Admitted ps d) (power : (d ^ length ps ≤ most) × (y ≡ float (d ^ length ps))) (asked : k ≤ 64) (room : length ps < length before)
     (is : after ≡ worked ps d before) (read : x ≡ get_or (take (length ps + 1) after) k (float 0)) where
   abbrev ls : List (Life ℕ)
@@ -83,14 +81,17 @@ module _ (ps : List ℕ) (d k : ℕ) (before after : List Float) (x y : Float) (
   entry : (j : ℕ) → get_or (take (length ps + 1) after) j (float 0) ≡ float (exactly naturals j ls)
   entry j = ap (λ t. get_or t j (float 0)) front ∙ entry_asked ls (length ps) j (length-map ps (natural_life d))
 
-  pub answered_from : answer ps d k before ≡ Ok (record { count = x; denominator = y }, after)
+  answered_from : answer ps d k before ≡ Ok (record { count = x; denominator = y }, after)
   answered_from =
       rw (le-ltb 64 (length ps) few.0, inside, few.3, le-ltb most (d ^ length ps) power.0, le-ltb 64 k asked, le-ltb (length before) (length ps + 1) (omega arith))
       (ap Ok (ap₂ (λ c t. (c, t)) (ap₂ (λ u v. record { count = u; denominator = v }) (sym (read ∙ entry k)) (sym power.1)) (sym is)))
 
-  pub exact_from : Exact ps d k (record { count = x; denominator = y }) after
+  exact_from : Exact ps d k (record { count = x; denominator = y }) after
   exact_from = (
     subst (IsExactly (exactly naturals k ls)) (sym (read ∙ entry k)) (float_value (exactly naturals k ls)),
     subst (IsExactly (d ^ length ps)) (sym power.1) (float_value (d ^ length ps)),
     λ j h. subst (IsExactly (exactly naturals j ls)) (sym (sym (get_or-take (length ps + 1) after j float_zero (omega arith)) ∙ ap (get_or (take (length ps + 1) after) j) float_zero_is ∙ entry j)) (float_value (exactly naturals j ls)),
   )
+
+  pub granted : (answer ps d k before ≡ Ok (record { count = x; denominator = y }, after)) × Exact ps d k (record { count = x; denominator = y }) after
+  granted = (answered_from, exact_from)

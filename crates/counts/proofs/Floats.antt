@@ -35,7 +35,7 @@ float_fits n h =
     (odd-fits binary64 54 false n 1074 (omega arith) h (lt_of_le_of_lt (mul-le-mul_right (2 ^ 1074) h) (lit< tt)))
 
 -- A number up to 2^53 is not rounded.
-round_is_float : (n : ℕ) → n ≤ most → round binary64 false n 1 ≡ float n
+pub round_is_float : (n : ℕ) → n ≤ most → round binary64 false n 1 ≡ float n
 round_is_float n h = whole_unique binary64 (round binary64 false n 1) (float n) false n (round-fits binary64 false n 1) (float_fits n h) (round_whole binary64 false n h) (float_value n)
 
 -- What the operations give at floats that are whole numbers, rounded as it may be.

@@ -1,18 +1,17 @@
 -- What the calls of `money_row` and `factor` give, put together.
 use Rattle.std.proofs.Common.{◌≡◌, ℕ, ◌+◌, ◌<◌, ◌≤◌, List, [], ◌∷◌, ◌++◌, length, get_or, take, drop, set, sym, ap, ◌∙◌, ap₂, arith, length-append}
 use Rattle.std.specs.List.{AllByRecursion, sum as std_sum}
-use Rattle.std.proofs.lemmas.List.Elements.{All-from_get_or, recursion_from_All}
 use Rattle.std.proofs.lemmas.List.{append_assoc, drop_at, drop_more, drop-set-lt, length-take-le, set_at, take_all, take_at}
 use Rattle.std.proofs.lemmas.List.Sums.{fold_more, sum_by_push}
 use Rattle.algebra.specs.Patterns.{naturals, total}
-use Rattle.algebra.proofs.Each.{each_taken}
+use Rattle.algebra.proofs.Each.{each_held, each_taken}
 use Rattle.money.specs.Answer.{Admitted, FactorAnswered, RowAnswered}
 use Rattle.money.specs.Money.{whole, pass, with_life, money_row, factor_of}
 use Rattle.money.proofs.Sums.{total_is_sum}
 use Rattle.money.proofs.Rounding.{sum, get_or_le_sum, row_long, row_sum, near_all, factor_past}
 
 all_within : (lives : List ℕ) → Admitted lives → AllByRecursion (λ p. p ≤ whole) lives
-all_within lives a = recursion_from_All (λ p. p ≤ whole) lives (All-from_get_or (λ p. p ≤ whole) lives 0 a.1)
+all_within lives a = each_held (λ p. p ≤ whole) lives 0 a.1
 
 -- One turn of the loop over the lives.
 module _ (lives entry row : List ℕ) (i : ℕ) (a : Admitted lives) (l : i < length lives) (room : length lives < length entry)

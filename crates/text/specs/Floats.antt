@@ -1,5 +1,6 @@
 -- How floats are printed.
-use Rattle.std.specs.Prelude.{◌≡◌, ℕ, ◌≤◌, List, [], ◌∷◌, Some, decimal, ⊤}
+use Rattle.std.specs.Prelude.{◌≡◌, ℕ, ◌≤◌, List, Some, decimal}
+use Rattle.std.specs.List.{AllZip}
 use Rattle.std.specs.Float.{Float, binary64}
 use Rattle.std.specs.Float.Parse.{parse_float}
 use Rattle.counts.specs.Answer.{most}
@@ -10,19 +11,10 @@ use Rattle.text.specs.Text.{spaced}
 abbrev pub IsWhole : Float → ℕ → Type 0
 IsWhole x n = (n ≤ most) × (x ≡ float n)
 
--- A text of a float: of a whole number its digits, of any other float a text that reads back as it.
+-- A text of a float: it reads back as the float, and is the digits of a whole number.
 abbrev pub IsTextOf : Float → List ℕ → Type 0
-IsTextOf x text =
-    ((n : ℕ) → IsWhole x n → text ≡ decimal n)
-    × (((n : ℕ) → ¬ IsWhole x n) → parse_float binary64 text ≡ Some x)
-
--- A text of each float.
-abbrev pub AreTextsOf : List Float → List (List ℕ) → Type 0
-AreTextsOf [] [] = ⊤
-AreTextsOf [] (t ∷ ts) = ⊥
-AreTextsOf (x ∷ xs) [] = ⊥
-AreTextsOf (x ∷ xs) (t ∷ ts) = IsTextOf x t × AreTextsOf xs ts
+IsTextOf x text = (parse_float binary64 text ≡ Some x) × ((n : ℕ) → IsWhole x n → text ≡ decimal n)
 
 -- A text of each float, with a blank between.
 abbrev pub AreSpacedTextsOf : List Float → List ℕ → Type 0
-AreSpacedTextsOf xs text = (ts : List (List ℕ)) × AreTextsOf xs ts × (text ≡ spaced ts)
+AreSpacedTextsOf xs text = (ts : List (List ℕ)) × AllZip IsTextOf xs ts × (text ≡ spaced ts)

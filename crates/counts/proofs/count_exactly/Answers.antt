@@ -10,7 +10,7 @@ use Rattle.std.specs.Float.{float_zero}
 use Rattle.counts.specs.Floats.{float, floats}
 use Rattle.counts.proofs.Floats.{float_zero_bits, float_one_bits}
 use Rattle.counts.proofs.Powers.{power_given}
-use Rattle.counts.proofs.Counting.{none_above, pass_exact, answered_from, exact_from}
+use Rattle.counts.proofs.Counting.{none_above, pass_exact, granted}
 use Rattle.counts.proofs.count_exactly.Goals as goal
 
 pub loop-i-init : goal.loop-i-init
@@ -48,7 +48,5 @@ returns c =
     let is = begun ∙ ap (λ t. map float (row naturals (length ps + 1) (natural_lives d ps)) ++ t) kept in
     let found : c.unwrap_or-count.result ≡ get_or (take (length ps + 1) after) c.args.k (of_bits binary64 0) = search rules in
     let read = found ∙ ap (get_or (take (length ps + 1) after) c.args.k) float_zero_bits in
-    record {
-      answered = answered_from ps d c.args.k c.args.work.now after c.unwrap_or-count.result c.in_ok-denominator.denominator c.in_ok-admit.ensures given (omega arith) (omega arith) is read;
-      exact = exact_from ps d c.args.k c.args.work.now after c.unwrap_or-count.result c.in_ok-denominator.denominator c.in_ok-admit.ensures given (omega arith) (omega arith) is read;
-    }
+    let both = granted ps d c.args.k c.args.work.now after c.unwrap_or-count.result c.in_ok-denominator.denominator c.in_ok-admit.ensures given (omega arith) (omega arith) is read in
+    record { answered = both.0; exact = both.1 }
