@@ -21,7 +21,7 @@ fn whole(x: f64) -> Option<u64>
     None
 }
 
-/// A whole number up to 2^53 in its digits, any other float as a text that reads back as it: `ryu` writes the shortest.
+/// A whole number up to 2^53 in its digits, any other float as `ryu` writes it: a short text that reads back as it.
 fn float_text(heap: Global, x: f64) -> Result<String, AllocError>
     ensures { IfOk result (λ s. IsTextOf x (string_bytes s)) }
 {
