@@ -13,6 +13,8 @@
 #include <stdlib.h>
 #include <string.h>
 
+#include "../splitmix64.h"
+
 __extension__ typedef unsigned __int128 u128;
 
 /* As the crate in tests/counts/run has it. */
@@ -41,17 +43,7 @@ struct input {
     size_t entries;
 };
 
-/* ---- random numbers: splitmix64 ---- */
-
-static uint64_t state = 1971;
-
-static uint64_t next(void)
-{
-    uint64_t z = state += UINT64_C(0x9e3779b97f4a7c15);
-    z = (z ^ z >> 30) * UINT64_C(0xbf58476d1ce4e5b9);
-    z = (z ^ z >> 27) * UINT64_C(0x94d049bb133111eb);
-    return z ^ z >> 31;
-}
+/* ---- random numbers ---- */
 
 static uint32_t below(uint64_t bound)
 {
@@ -274,8 +266,7 @@ static void call(const struct input *in)
 int main(int argc, char **argv)
 {
     bool passed = true;
-    if (argc > 1)
-        state = strtoull(argv[1], NULL, 10);
+    state = argc > 1 ? strtoull(argv[1], NULL, 10) : 1971;
     for (uint32_t i = 0; i < CALLS; i++) {
         struct input in = random_input();
         call(&in);

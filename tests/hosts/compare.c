@@ -15,6 +15,7 @@
 #include <sys/mman.h>
 #include <unistd.h>
 
+#include "../splitmix64.h"
 #include "reference.h"
 #include "survivorship.h"
 
@@ -49,17 +50,7 @@ static const char *verdict(bool passed)
     return passed ? "passed:" : "FAILED:";
 }
 
-/* ---- random numbers: splitmix64 ---- */
-
-static uint64_t state;
-
-static uint64_t next(void)
-{
-    uint64_t z = state += UINT64_C(0x9e3779b97f4a7c15);
-    z = (z ^ z >> 30) * UINT64_C(0xbf58476d1ce4e5b9);
-    z = (z ^ z >> 27) * UINT64_C(0x94d049bb133111eb);
-    return z ^ z >> 31;
-}
+/* ---- random numbers ---- */
 
 /* A number below the bound. */
 static uint32_t below(uint32_t bound)
