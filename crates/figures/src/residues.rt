@@ -2,7 +2,8 @@
 ghost use Rattle.figures.specs.Residues.{residue, ops as residue_ops, modulus};
 ghost use Rattle.figures.specs.Modular.{modular_laws, residue_modular};
 ghost use Rattle.figures.specs.Same.{same_residue};
-ghost use Rattle.std.specs.Prelude.{◌≡◌, ◌^◌, ◌<◌};
+ghost use Rattle.std.specs.Prelude.{◌≡◌, ◌+◌, ◌*◌, ◌/◌, ◌%◌, ◌^◌, ◌<◌};
+ghost use Rattle.std.specs.Option.{SomeIff};
 ghost use Rattle.std.proofs.Common.{mod-eq_of_lt, rules};
 
 use crate::kinds::Residue;
@@ -10,23 +11,52 @@ use crate::{Packable, Ring};
 
 const MODULUS: u32 = 2147483647;
 
-// 2^31 leaves 1, so that the digits of a number to this base may be added up in place of a division by the modulus.
-const BASE: u64 = 2147483648;
+// 2^62 - 1, the greatest number that is reduced.
+const GREATEST: u64 = 4611686018427387903;
 
-// The residue of a number, by its digits.
-fn residue_by_digits(number: u64) -> Residue
-    requires { number < 2 ^ 63 }
+/// The high part of a number, from bit 31 on, plus its low part: the same residue, since 2^31 has the remainder 1.
+fn folded(number: u64) -> u64
+    ensures { result ≡ number / 2 ^ 31 + number % 2 ^ 31 }
+{
+    (number >> 31) + (number & MODULUS as u64)
+}
+
+/// The residue of a number below twice the modulus, by a conditional subtraction.
+fn below_modulus(number: u32) -> Residue
+    requires { number < 2 * modulus }
     ensures { result ≡ residue number }
 {
-    // Below three times the base, and then at most one above the modulus.
-    let once = number / BASE + number % BASE;
-    let twice = (once / BASE + once % BASE) as u32;
     Residue {
-        number: if twice < MODULUS {
-            twice
+        number: if number < MODULUS {
+            number
         } else {
-            twice - MODULUS
+            number - MODULUS
         },
+    }
+}
+
+/// The residue of a number below 2^62.
+fn reduced(number: u64) -> Residue
+    requires { number < 2 ^ 62 }
+    ensures { result ≡ residue number }
+{
+    // Of this number alone the parts add up to twice the modulus. No product of two residues is it, so the branch is foreseen.
+    if number == GREATEST {
+        return Residue::zero();
+    }
+    below_modulus(folded(number) as u32)
+}
+
+impl Residue {
+    /// The residue of a number below 2^62, as every product of two residues is; none for 2^62 or more.
+    pub fn from_u64(number: u64) -> Option<Residue>
+        ensures { SomeIff result (number < 2 ^ 62) (residue number) }
+    {
+        if number <= GREATEST {
+            Some(reduced(number))
+        } else {
+            None
+        }
     }
 }
 
@@ -53,22 +83,20 @@ impl Ring for Residue {
     }
 
     fn add(self, other: Residue) -> Residue {
-        Residue {
-            number: (self.number + other.number) % MODULUS,
-        }
+        below_modulus(self.number + other.number)
     }
 
     fn neg(self) -> Residue {
         Residue {
-            number: (MODULUS - self.number) % MODULUS,
+            number: match self.number {
+                0 => 0,
+                number => MODULUS - number,
+            },
         }
     }
 
     fn mul(self, other: Residue) -> Residue {
-        let product = self.number as u64 * other.number as u64;
-        Residue {
-            number: (product % MODULUS as u64) as u32,
-        }
+        reduced(self.number as u64 * other.number as u64)
     }
 
     fn multiple(self, times: u64) -> Residue {
@@ -79,15 +107,14 @@ impl Ring for Residue {
         }
     }
 
-    // The sum of two products of residues fits in 63 bits.
+    // The sum of two products is below 2^63, so it is folded before it is reduced.
     fn sum_of_products(a: Residue, b: Residue, c: Residue, d: Residue) -> Residue {
-        residue_by_digits(a.number as u64 * b.number as u64 + c.number as u64 * d.number as u64)
+        let sum = a.number as u64 * b.number as u64 + c.number as u64 * d.number as u64;
+        reduced(folded(sum))
     }
 
     fn from_plain(written: u32) -> Residue {
-        Residue {
-            number: written % MODULUS,
-        }
+        reduced(written as u64)
     }
 
     fn to_plain(self) -> u32 {

@@ -21,6 +21,7 @@ pub fn obey(heap: Global, words: &[&[u8]]) -> Result<String, Unanswered> {
             heap, whole, k, entries, lives,
         ),
         [b"exchangeable", m, entries, table @ ..] => exchangeable_command(heap, m, entries, table),
+        [b"residue", number] => residue_command(heap, number),
         [b"households", kind, entries, rows @ ..] => households_command(heap, kind, entries, rows),
         _ => Err(NotUnderstood),
     }
@@ -88,6 +89,15 @@ fn exchangeable_command(
     let mut row = filled(heap, 0u64, entries)?;
     exchangeable_row(&table, m, &mut row)?;
     Ok(table_text(heap, &row)?)
+}
+
+/// residue WIDE
+fn residue_command(heap: Global, number: &[u8]) -> Result<String, Unanswered> {
+    let number = u64::read(number).ok_or(NotUnderstood)?;
+    match Residue::from_u64(number) {
+        Some(residue) => Ok(residue.to_plain().show(heap)?),
+        None => Ok(String::from_str(heap, "none")?),
+    }
 }
 
 /// households KIND ENTRIES FIGURE FIGURE .. / FIGURE FIGURE ..
