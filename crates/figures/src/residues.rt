@@ -114,7 +114,7 @@ impl Ring for Residue {
     }
 
     fn from_plain(written: u32) -> Residue {
-        reduced(written as u64)
+        below_modulus(folded(written as u64) as u32)
     }
 
     fn to_plain(self) -> u32 {
