@@ -80,7 +80,7 @@ fn reduced(number: u64) -> Option<u32> {
 
 const MODULUS: u32 = 2147483647;
 
-/// The next number below the modulus of a fixed sequence. One in four is next to an end.
+/// The next number below the modulus of a fixed sequence. One in four is among the three least or the three greatest.
 fn next_below(state: &mut u64) -> u32
     ensures { result < 2147483647 }
 {

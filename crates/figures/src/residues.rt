@@ -40,7 +40,7 @@ fn reduced(number: u64) -> Residue
     requires { number < 2 ^ 62 }
     ensures { result ≡ residue number }
 {
-    // Of this number alone the parts add up to twice the modulus. No product of two residues is it, so the branch is foreseen.
+    // Only this number's parts add up to twice the modulus. It is no product of two residues, so the branch is predicted.
     if number == GREATEST {
         return Residue::zero();
     }
@@ -48,7 +48,7 @@ fn reduced(number: u64) -> Residue
 }
 
 impl Residue {
-    /// The remainder of a number below 2^62, which every product of two residues is; none for a number of 2^62 or more.
+    /// The residue of a number below 2^62, as is every product of two residues; none of a number of 2^62 or more.
     pub fn from_u64(number: u64) -> Option<Residue>
         ensures { SomeIff result (number < 2 ^ 62) (residue number) }
     {
