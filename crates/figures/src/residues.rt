@@ -48,7 +48,7 @@ fn reduced(number: u64) -> Residue
 }
 
 impl Residue {
-    /// The residue of a number below 2^62, as is every product of two residues; none of a number of 2^62 or more.
+    /// The residue of a number below 2^62, as every product of two residues is; none of a number of 2^62 or more.
     pub fn from_u64(number: u64) -> Option<Residue>
         ensures { SomeIff result (number < 2 ^ 62) (residue number) }
     {
